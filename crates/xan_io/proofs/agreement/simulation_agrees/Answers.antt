@@ -1,0 +1,5 @@
+use Rattle.xan_io.proofs.Simulation.{agrees}
+use Rattle.xan_io.proofs.agreement.simulation_agrees.Goals as goal
+
+pub returns : goal.returns
+returns c = agrees

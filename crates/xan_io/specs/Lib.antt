@@ -1,0 +1,9 @@
+pub mod Outcome
+pub mod Entry
+pub mod Agreement
+pub mod Faults
+pub mod Contents
+pub mod Written
+pub mod InMemory
+pub mod Listed
+pub mod ListedPuts

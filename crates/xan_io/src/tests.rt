@@ -1,0 +1,106 @@
+use crate::{FileFault, FileRead, Files, HostSink, MemFiles, MemSink, Name, SafeFiles, Sink};
+use std::process::Abort;
+use std::test::Fail;
+
+/// The read gave these bytes.
+pub(crate) fn is_whole(outcome: Result<FileRead, FileFault>, wanted: &[u8]) -> bool {
+    match outcome {
+        Ok(FileRead::Whole(bytes)) => bytes.as_slice() == wanted,
+        _ => false,
+    }
+}
+
+/// The read found more bytes than it was to take.
+pub(crate) fn is_too_long(outcome: Result<FileRead, FileFault>) -> bool {
+    matches!(outcome, Ok(FileRead::TooLong))
+}
+
+pub(crate) fn is_failed(outcome: Result<FileRead, FileFault>) -> bool {
+    matches!(outcome, Err(FileFault::Failed))
+}
+
+#[test]
+fn names(rt: HostRuntime) -> Result<(), Fail> {
+    let name = Name::from_bytes(rt.alloc(), b"main")?;
+    let copy = name.copy()?;
+    assert!(rt; name.bytes() == b"main".as_slice());
+    assert!(rt; copy.bytes() == b"main".as_slice());
+    Ok(())
+}
+
+#[test]
+fn safe_files(rt: HostRuntime) -> Result<(), Fail> {
+    let alloc = rt.alloc();
+    let mut files = SafeFiles::new(alloc);
+    assert!(rt; files.content("a").is_none());
+    assert!(rt; is_whole(files.read(alloc, "a", 0), b""));
+    assert!(rt; files.content("a").is_none());
+    files.set("a", b"abcde")?;
+    assert!(rt; is_whole(files.read(alloc, "a", 5), b"abcde"));
+    assert!(rt; is_too_long(files.read(alloc, "a", 4)));
+    assert!(rt; files.write(alloc, "a", b"xyz").is_ok());
+    assert!(rt; files.content("a") == Some(b"xyz".as_slice()));
+    Ok(())
+}
+
+/// Runs three calls of which the one of this number fails, and compares what the files then hold.
+fn fail_once(rt: &(impl Abort + AllocGlobal), number: u64, b: Option<&[u8]>) -> Result<(), Fail> {
+    let alloc = rt.alloc();
+    let mut files = MemFiles::new(alloc, vec![in alloc; number]?);
+    files.set("a", b"abcde")?;
+    let first = files.read(alloc, "a", 5);
+    let second = files.write(alloc, "b", b"vwxyz");
+    let third = files.read(alloc, "a", 4);
+    assert_eq!(rt; is_failed(first), number == 0, "read, {number}");
+    assert_eq!(rt; second.is_err(), number == 1, "write, {number}");
+    assert_eq!(rt; is_failed(third), number == 2, "read again, {number}");
+    assert_eq!(rt; files.content("a"), Some(b"abcde".as_slice()));
+    assert_eq!(rt; files.content("b"), b, "at {number}");
+    Ok(())
+}
+
+#[test]
+fn mem_files(rt: HostRuntime) -> Result<(), Fail> {
+    fail_once(&rt, 0, Some(b"vwxyz"))?;
+    fail_once(&rt, 1, Some(b"vw"))?;
+    fail_once(&rt, 2, Some(b"vwxyz"))?;
+    let alloc = rt.alloc();
+    let mut files = MemFiles::new(alloc, Vec::new(alloc));
+    assert!(rt; is_failed(files.read(alloc, "a", 9)), "no such file");
+    assert!(rt; files.write(alloc, "a", b"").is_ok());
+    assert!(rt; is_whole(files.read(alloc, "a", 0), b""));
+    Ok(())
+}
+
+/// Puts `abc` and then `de` into so much room.
+fn put_twice(
+    rt: &(impl Abort + AllocGlobal),
+    room: u64,
+    fails: &[u64],
+    wanted: &[u8],
+) -> Result<(), Fail> {
+    let mut sink = MemSink::new(rt.alloc(), room, fails.to_vec(rt.alloc())?)?;
+    let _ = sink.put(b"abc");
+    let _ = sink.put(b"de");
+    assert!(rt; sink.bytes() == wanted, "room {room}");
+    Ok(())
+}
+
+#[test]
+fn mem_sink(rt: HostRuntime) -> Result<(), Fail> {
+    put_twice(&rt, 0, &[], b"")?;
+    put_twice(&rt, 1, &[], b"a")?;
+    put_twice(&rt, 2, &[], b"ad")?;
+    put_twice(&rt, 3, &[], b"abc")?;
+    put_twice(&rt, 4, &[], b"abcd")?;
+    put_twice(&rt, 5, &[], b"abcde")?;
+    put_twice(&rt, 9, &[0], b"ade")?;
+    put_twice(&rt, 9, &[1], b"abcd")
+}
+
+#[test]
+fn host_sink(rt: HostRuntime) {
+    let mut sink = HostSink::new(&rt);
+    assert!(rt; sink.put(b"built\n").is_ok());
+    assert!(rt; sink.put(b"").is_ok());
+}
