@@ -1,0 +1,12 @@
+pub mod ReaderLaws
+pub mod Ranges
+pub mod NumberLaws
+pub mod IntegerLaws
+pub mod ListLaws
+pub mod WordLaws
+pub mod NameLaws
+pub mod SignLaws
+pub mod Loops
+pub mod SpelledLaws
+pub mod SampleLaws
+pub mod LineLaws

@@ -1,0 +1,10 @@
+pub mod Code
+pub mod Reader
+pub mod Combinators
+pub mod Lists
+pub mod Numbers
+pub mod Integers
+pub mod Spelled
+pub mod Words
+pub mod Names
+pub mod Sample
