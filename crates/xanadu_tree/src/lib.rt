@@ -1,0 +1,19 @@
+//! The trees of the source language.
+//!
+//! A core is a program whose names are resolved to numbers: what the compiler's passes read. Contracts speak of its plain tree, which is
+//! the same tree over lists and says nothing of where a node lies in memory. It stands on `xan_io` and `xan_seq`.
+#![tactic(auto)]
+
+mod expr;
+mod linear;
+mod program;
+mod small;
+mod stmt;
+mod types;
+
+pub use expr::{CoreExpr, Op, Rel};
+pub use linear::Linear;
+pub use program::{Core, CoreFun};
+pub use small::number_program;
+pub use stmt::{Clause, CoreStmt, Test};
+pub use types::{CoreTy, Kind, Packing, Quant};
