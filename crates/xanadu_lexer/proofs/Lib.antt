@@ -1,0 +1,9 @@
+pub mod Values
+pub mod Steps
+pub mod Bytes
+pub mod Longest
+pub mod Words
+pub mod Front
+pub mod ByRules
+pub mod Spelled
+pub mod OnlyRules
