@@ -1,0 +1,61 @@
+-- Runs worked out by hand, which the definitions give by computation.
+use Rattle.std.proofs.Common.{◌≡◌, pos, negsuc, ◌^◌, ◌-◌, true, List, [], ◌∷◌, Some, codes, refl}
+use Rattle.xan_io.specs.declared.arg.Arg.TheVariants.{Int, Bool}
+use Rattle.xan_io.specs.Outcome.{Returned, NoStore, Overflow, Stuck, Running}
+use Rattle.xan_io.specs.Entry.{ArgCount, ArgKind}
+use Rattle.dtal_code.specs.declared.op.Op.{Op}
+use Rattle.dtal_code.specs.declared.op.Op.TheVariants.{Li, Mv, Add, Sub, Ret, Print}
+use Rattle.dtal_code.specs.declared.straight.Straight.{Straight}
+use Rattle.dtal_code.specs.Machine.{step, run}
+use Rattle.dtal_code.specs.Entry.{places_of, straight_fault, straight_outcome}
+
+-- x + y - 3
+abbrev sum_code : List Op
+sum_code =
+    Mv 16 0 ∷ Mv 17 1 ∷ Mv 13 16 ∷ Mv 14 17 ∷ Add 13 13 14 ∷ Mv 18 13 ∷ Li 13 (pos 3) ∷ Mv 19 13 ∷ Mv 13 18 ∷ Mv 14 19 ∷ Sub 13 13 14
+    ∷ Mv 18 13 ∷ Ret 18 ∷ []
+
+abbrev sum_program : Straight
+sum_program = record { name = codes "main"; params = 2; code = sum_code }
+
+-- of 2 and 3 it is 2
+sum_returns : straight_outcome sum_program (Int (pos 2) ∷ Int (pos 3) ∷ []) 0 1 13 ≡ record { printed = []; how = Returned (pos 2) }
+unfolding straight_outcome run step places_of
+sum_returns = refl
+
+-- and no step earlier
+sum_runs : straight_outcome sum_program (Int (pos 2) ∷ Int (pos 3) ∷ []) 0 1 12 ≡ record { printed = []; how = Running }
+unfolding straight_outcome run step places_of
+sum_runs = refl
+
+-- of the greatest number and 1 it overflows, although the whole sum would fit
+sum_overflows : straight_outcome sum_program (Int (pos (2 ^ 63 - 1)) ∷ Int (pos 1) ∷ []) 0 1 13 ≡ record { printed = []; how = Overflow }
+unfolding straight_outcome run step places_of
+sum_overflows = refl
+
+-- of the least number and 0 it overflows below
+sum_underflows : straight_outcome sum_program (Int (negsuc (2 ^ 63 - 1)) ∷ Int (pos 0) ∷ []) 0 1 13 ≡ record { printed = []; how = Overflow }
+unfolding straight_outcome run step places_of
+sum_underflows = refl
+
+-- with no activation there is no run
+sum_no_depth : straight_outcome sum_program (Int (pos 2) ∷ Int (pos 3) ∷ []) 0 0 13 ≡ record { printed = []; how = NoStore }
+unfolding straight_outcome
+sum_no_depth = refl
+
+few_args : straight_fault sum_program (Int (pos 2) ∷ []) ≡ Some ArgCount
+few_args = refl
+
+wrong_kind : straight_fault sum_program (Int (pos 2) ∷ Bool true ∷ []) ≡ Some (ArgKind 2)
+wrong_kind = refl
+
+-- a number is printed, and then returned
+echo_prints : straight_outcome (record { name = codes "main"; params = 1; code = Print 0 ∷ Ret 0 ∷ [] }) (Int (pos 7) ∷ []) 0 1 2
+    ≡ record { printed = pos 7 ∷ []; how = Returned (pos 7) }
+unfolding straight_outcome run step places_of
+echo_prints = refl
+
+-- past the last instruction there is nothing to do
+past_end : straight_outcome (record { name = codes "main"; params = 0; code = Print 0 ∷ [] }) [] 0 1 2 ≡ record { printed = pos 0 ∷ []; how = Stuck }
+unfolding straight_outcome run step places_of
+past_end = refl

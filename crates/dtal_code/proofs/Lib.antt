@@ -1,0 +1,6 @@
+pub mod Steps
+pub mod Arguments
+pub mod Alone
+mod Parts
+mod Spelling
+mod Examples

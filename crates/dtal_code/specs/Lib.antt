@@ -1,0 +1,4 @@
+pub mod Lower
+pub mod Text
+pub mod Machine
+pub mod Entry
