@@ -1,0 +1,76 @@
+ghost use Rattle.std.specs.Prelude.{◌≡◌, ◌≢◌, ◌↔◌, ℕ, suc, ℤ, List, [], ◌∷◌, ◌++◌, Option, None, Some, Result, Ok, Err};
+ghost use Rattle.xan_io.specs.declared.arg.Arg.{Arg};
+ghost use Rattle.xan_io.specs.Outcome.{Stuck, Running, Returned, NoStore, Overflow, Outcome};
+ghost use Rattle.dtal_code.specs.declared.straight.Straight.{Straight};
+ghost use Rattle.dtal_code.specs.Machine.{State, On, Off, step};
+ghost use Rattle.dtal_code.specs.Entry.{straight_fault, straight_outcome, first_state};
+ghost use Rattle.dtal_machine.specs.Typing.{IsAccepted};
+ghost use Rattle.dtal_machine.specs.Refusal.{IsRefused, refusal};
+ghost use Rattle.dtal_machine.specs.Steps.{Loaded, IsLive, event, stepped, moved, run_on};
+ghost use Rattle.dtal_machine.specs.Loading.{loaded};
+ghost use Rattle.dtal_code.specs.Text.{IsStraight};
+ghost use Rattle.dtal_machine.specs.Fits.{Fits};
+
+use crate::event::Event;
+use crate::loading::LoadError;
+use crate::refusal::{Rule, VerifyError, Where};
+
+/// A program that is accepted is not refused, and a program is refused at one place, by one rule.
+pub fn verdicts_exclude_each_other()
+    ensures accepted { (program : Straight) (at : Where) (rule : Rule) → IsAccepted program → ¬ (IsRefused program at rule) }
+    ensures refused { (program : Straight) (at at' : Where) (rule rule' : Rule) → IsRefused program at rule → IsRefused program at' rule'
+        → (at ≡ at') × (rule ≡ rule') }
+{}
+
+/// The first refusal of a program of some text, as a function: there is none exactly where the program is accepted, and else it is the
+/// one place that refuses, with its rule.
+pub fn refusal_is_the_first()
+    ensures none { (program : Straight) → IsStraight program → refusal program ≡ None ↔ IsAccepted program }
+    ensures some { (program : Straight) (at : Where) (rule : Rule) → IsStraight program
+        → refusal program ≡ Some (VerifyError.Refused at rule) ↔ IsRefused program at rule }
+{}
+
+/// The run of a loaded machine is the program's run, and each step takes it on by what its event says: for whoever runs a machine.
+pub fn steps_make_the_run()
+    ensures begins { (program : Straight) (args : List Arg) (heap depth steps : ℕ) (machine : Loaded) → loaded program args heap depth ≡ Ok machine
+        → straight_outcome program args heap depth steps ≡ run_on machine steps [] }
+    ensures live { (program : Straight) (args : List Arg) (heap depth : ℕ) (machine : Loaded) → loaded program args heap depth ≡ Ok machine
+        → IsLive machine.now }
+    ensures spent { (machine : Loaded) (printed : List ℤ) → IsLive machine.now → run_on machine 0 printed ≡ record { printed = printed; how = Running } }
+    ensures without_store { (program : Straight) (args : List Arg) (heap depth steps : ℕ) → loaded program args heap depth ≡ Err LoadError.NoStore
+        → straight_outcome program args heap depth steps ≡ record { printed = []; how = NoStore } }
+    ensures going { (machine : Loaded) (steps : ℕ) (printed : List ℤ) → event (stepped machine) ≡ Some Event.Going
+        → (run_on machine (suc steps) printed ≡ run_on (moved machine) steps printed) × IsLive (moved machine).now }
+    ensures print { (machine : Loaded) (steps : ℕ) (printed : List ℤ) (number : ℤ) → event (stepped machine) ≡ Some (Event.Print number)
+        → (run_on machine (suc steps) printed ≡ run_on (moved machine) steps (printed ++ number ∷ [])) × IsLive (moved machine).now }
+    ensures returned { (machine : Loaded) (steps : ℕ) (printed : List ℤ) (word : ℤ) → event (stepped machine) ≡ Some (Event.Returned word)
+        → run_on machine (suc steps) printed ≡ record { printed = printed; how = Returned word } }
+    ensures no_store { (machine : Loaded) (steps : ℕ) (printed : List ℤ) → event (stepped machine) ≡ Some Event.NoStore
+        → run_on machine (suc steps) printed ≡ record { printed = printed; how = NoStore } }
+    ensures overflow { (machine : Loaded) (steps : ℕ) (printed : List ℤ) → event (stepped machine) ≡ Some Event.Overflow
+        → run_on machine (suc steps) printed ≡ record { printed = printed; how = Overflow } }
+{}
+
+/// The first state of a run on arguments without a fault is one that a run of the accepted program passes.
+pub fn entry_fits()
+    ensures { (program : Straight) (accepted : IsAccepted program) (args : List Arg) (heap depth : ℕ) → straight_fault program args ≡ None
+        → Fits program accepted.before (first_state args heap depth) }
+{}
+
+/// From a state that a run of an accepted program passes, a step is not stuck.
+pub fn progress()
+    ensures { (program : Straight) (accepted : IsAccepted program) (state : State) → Fits program accepted.before state
+        → step program.code state ≢ Off Stuck }
+{}
+
+/// A step from such a state that does not end the run leads to such a state.
+pub fn preservation()
+    ensures { (program : Straight) (accepted : IsAccepted program) (state next : State) (printed : Option ℤ) → Fits program accepted.before state
+        → step program.code state ≡ On printed next → Fits program accepted.before next }
+{}
+
+/// No run of an accepted program is ever stuck.
+pub fn accepted_programs_are_never_stuck()
+    ensures { (program : Straight) (args : List Arg) (heap depth steps : ℕ) → IsAccepted program → straight_fault program args ≡ None
+        → (straight_outcome program args heap depth steps).how ≢ Stuck }
+{}
