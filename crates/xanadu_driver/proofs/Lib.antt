@@ -1,0 +1,11 @@
+pub mod Chains
+pub mod Complete
+pub mod Emission
+pub mod Pieces
+pub mod Ranges
+pub mod Simulation
+pub mod Sound
+pub mod Statuses
+pub mod Stretches
+pub mod Turns
+pub mod Whole

@@ -1,0 +1,165 @@
+-- A source of the small form and its text.
+use Rattle.std.proofs.Common.{◌≡◌, ℕ, zero, suc, ◌≤◌, ℤ, ◌+ℤ◌, ◌-ℤ◌, Bool, true, false, cond, List, length, Option, Some, None, Result, Ok, Err, sym, ap, ◌∙◌, subst}
+use Rattle.xan_io.specs.declared.arg.Arg.{Arg}
+use Rattle.xan_io.specs.Agreement.{Agree}
+use Rattle.xan_io.specs.Contents.{replaced}
+use Rattle.dtal_code.specs.declared.straight.Straight.{Straight}
+use Rattle.dtal_code.specs.Entry.{straight_fault, straight_outcome, arg_words}
+use Rattle.dtal_code.specs.Machine.{fits_word}
+use Rattle.dtal_code.specs.Text.{Spells, program_text}
+use Rattle.dtal_code.proofs.Arguments.{length-arg_words, fault-none_count}
+use Rattle.dtal_code.proofs.Steps.{get_within}
+use Rattle.xanadu_lexer.specs.declared.error.LexError.{LexError}
+use Rattle.xanadu_lexer.specs.declared.token.Token.{Token}
+use Rattle.xanadu_lexer.specs.Lexing.{lexed}
+use Rattle.xanadu_tree.specs.declared.expr.Op.{Op}
+use Rattle.xanadu_tree.specs.declared.expr.Op.TheVariants.{Add, Sub, Mul, Div, Mod}
+use Rattle.xanadu_tree.specs.Plain as plain
+use Rattle.xanadu_tree.specs.Small.{IsSmall, IsSum, IsOperand, IsSumOp, AreSumLinks, number_program}
+use Rattle.xanadu_driver.specs.declared.reader.NotSmall.{NotSmall}
+use Rattle.xanadu_driver.specs.declared.reader.NotSmall.TheVariants.{Form}
+use Rattle.xanadu_driver.specs.Correct.{HasEnded, HasFault, Translates}
+use Rattle.xanadu_driver.specs.Grammar.{SmallReads, ReadsSmall}
+use Rattle.xanadu_driver.specs.Lowering.{straight_of}
+use Rattle.xanadu_driver.specs.Meaning.{Computed, Number, Overflows, Undefined, and_then, known, operator, value, links_value, how_of, source_fault, source_outcome}
+use Rattle.xanadu_driver.specs.Reading.{small_of, Fails}
+use Rattle.xanadu_driver.proofs.Complete.{small_complete}
+use Rattle.xanadu_driver.proofs.Ranges.{straight_spelled}
+use Rattle.xanadu_driver.proofs.Simulation.{faults_same, follows, small_agrees}
+use Rattle.xanadu_driver.proofs.Sound.{small_sound}
+
+-- ---- what is read is small
+
+small_is : (tokens : List Token) (program : plain.Program) → ReadsSmall tokens program → IsSmall program
+small_is tokens program r =
+    record { count = length r.names; value = r.value; return_at = r.return_at; at = r.at; few = r.few; sum = r.sum; is = r.is }
+
+pub read_is_small : (tokens : List Token) (program : plain.Program) → small_of tokens ≡ Some program → IsSmall program
+read_is_small tokens program e = small_is tokens program (small_sound tokens program e)
+
+pub lowered_spelled : (core : plain.Program) (program : Straight) → IsSmall core → ((small : IsSmall core) → program ≡ straight_of small.count small.value)
+    → (bytes : List ℕ) × Spells bytes program
+lowered_spelled core program small is = (
+  program_text (straight_of small.count small.value),
+  subst (Spells (program_text (straight_of small.count small.value))) (sym (is small)) (straight_spelled small.count small.value small.few small.sum),
+)
+
+-- ---- what is not of the small form
+
+or_tokens : List Token → Result (List Token) LexError → List Token
+or_tokens d (Ok tokens) = tokens
+or_tokens d (Err error) = d
+
+one_list : (a b : List Token) → ◌≡◌ {A = Result (List Token) LexError} (Ok a) (Ok b) → a ≡ b
+unfolding or_tokens
+one_list a b e = ap (or_tokens a) e
+
+pub no_program : (source : List ℕ) (tokens : List Token) → lexed source ≡ Ok tokens → small_of tokens ≡ None → (core : plain.Program) → SmallReads source core → ⊥
+no_program source tokens is none core reads =
+    let same = one_list tokens reads.tokens (sym is ∙ reads.lexed) in
+    let some = small_complete reads.tokens core reads.small in
+    let none' : small_of reads.tokens ≡ None = ap small_of (sym same) ∙ none in
+    cc (some, none')
+
+pub no_tokens : (source : List ℕ) → HasFault (lexed source) → (core : plain.Program) → SmallReads source core → ⊥
+no_tokens source fault core reads = subst HasFault reads.lexed fault
+
+pub fails_form : {Y : Type 0} (error : NotSmall) (read : Option Y) → error ≡ Form → Fails error read → read ≡ None
+fails_form {Y} error read is fails = subst (λ e. Fails e read) is fails
+
+-- ---- both sides end
+
+abbrev IsDefined : Computed → Type 0
+IsDefined (Number number) = Unit {0}
+IsDefined Overflows = Unit {0}
+IsDefined Undefined = ⊥
+
+then_defined : (computed : Computed) (go_on : ℤ → Computed) → IsDefined computed → ((number : ℤ) → IsDefined (go_on number)) → IsDefined (and_then computed go_on)
+then_defined (Number number) go_on is all = all number
+then_defined Overflows go_on is all = tt
+then_defined Undefined go_on is all = absurd is
+
+word_defined : (b : Bool) (number : ℤ) → IsDefined (cond b (Number number) Overflows)
+word_defined true number = tt
+word_defined false number = tt
+
+operator_defined : (op : Op) (a b : ℤ) → IsSumOp op → IsDefined (operator op a b)
+operator_defined Add a b is = word_defined (fits_word (a +ℤ b)) (a +ℤ b)
+operator_defined Sub a b is = word_defined (fits_word (a -ℤ b)) (a -ℤ b)
+operator_defined Mul a b is = absurd is
+operator_defined Div a b is = absurd is
+operator_defined Mod a b is = absurd is
+
+item_defined : (env : List ℤ) (item : plain.Expr) → IsOperand (length env) item → IsDefined (value env item)
+item_defined env (plain.Int number) is = tt
+item_defined env (plain.Var variable) is = let w = get_within env variable is in subst IsDefined (sym (ap known w.1)) tt
+item_defined env _ is = absurd is
+
+links_defined : (env : List ℤ) (links : plain.Links) (left : ℤ) → AreSumLinks (length env) links → IsDefined (links_value env left links)
+links_defined env plain.NoLink left sum = tt
+links_defined env (plain.ALink op item _ others) left sum =
+    then_defined (value env item) _ (item_defined env item sum.1)
+    (λ right. then_defined (operator op left right) _ (operator_defined op left right sum.0) (λ result. links_defined env others result sum.2))
+
+sum_defined : (env : List ℤ) (sum : plain.Expr) → IsSum (length env) sum → IsDefined (value env sum)
+sum_defined env (plain.Chain first links) is = then_defined (value env first) _ (item_defined env first is.0) (λ left. links_defined env links left is.1)
+sum_defined env (plain.Int number) is = tt
+sum_defined env (plain.Var variable) is = item_defined env (plain.Var variable) is
+sum_defined env _ is = absurd is
+
+defined_ends : (depth : ℕ) (computed : Computed) → IsDefined computed → HasEnded (suc depth) (how_of computed)
+defined_ends depth (Number number) is = tt
+defined_ends depth Overflows is = tt
+defined_ends depth Undefined is = absurd is
+
+ends : (count : ℕ) (sum : plain.Expr) (return_at at : ℕ) (args : List Arg) (heap depth fuel : ℕ) → IsSum count sum → straight_fault (straight_of count sum) args ≡ None
+    → HasEnded depth (source_outcome (number_program count sum return_at at) args heap depth fuel).how
+unfolding source_outcome
+ends count sum return_at at args heap zero fuel is none = tt
+ends count sum return_at at args heap (suc depth) fuel is none =
+    let many : length (arg_words args) ≡ count = length-arg_words args ∙ fault-none_count (straight_of count sum) args none in
+    defined_ends depth (value (arg_words args) sum) (sum_defined (arg_words args) sum (subst (λ n. IsSum n sum) (sym many) is))
+
+-- ---- the whole
+
+pub translates : (source text : List ℕ) (tokens : List Token) (core : plain.Program) (program : Straight) (instructions : ℕ) → length source ≤ 1048576
+    → lexed source ≡ Ok tokens → small_of tokens ≡ Some core → ((small : IsSmall core) → program ≡ straight_of small.count small.value)
+    → Spells text program → ((bytes : List ℕ) (p q : Straight) → Spells bytes p → Spells bytes q → p ≡ q) → instructions ≡ length program.code
+    → Translates source text instructions
+translates source text tokens core program instructions short lexes reads lowers spells one counted =
+    let r = small_sound tokens core reads in
+    let s = small_is tokens core r in
+    let is = lowers s in
+    let whole = number_program s.count s.value s.return_at s.at in
+    let straight = straight_of s.count s.value in
+    let agree = small_agrees s.count s.value s.return_at s.at s.few s.sum in
+    let agree_program = subst (λ q. Agree (source_fault whole) (straight_fault q) (source_outcome whole) (straight_outcome q)) (sym is) agree in
+    record {
+      core = core;
+      program = program;
+      read = record { short = short; tokens = tokens; lexed = lexes; small = r };
+      spelled = spells;
+      only = λ other h. one text other program h spells;
+      counted = counted;
+      agree = subst (λ c. Agree (source_fault c) (straight_fault program) (source_outcome c) (straight_outcome program)) (sym s.is) agree_program;
+      source_ends = λ args heap depth run none fuel.
+          let no_fault : source_fault whole args ≡ None = ap (λ c. source_fault c args) (sym s.is) ∙ none in
+          subst (λ c. HasEnded depth (source_outcome c args heap depth fuel).how) (sym s.is)
+          (ends s.count s.value s.return_at s.at args heap depth fuel s.sum (sym (faults_same s.count s.value s.return_at s.at args) ∙ no_fault));
+      machine_ends = λ args heap depth run none.
+          let no_fault : straight_fault straight args ≡ None = ap (λ q. straight_fault q args) (sym is) ∙ none in
+          let f = follows s.count s.value s.return_at s.at args heap depth 0 s.few s.sum no_fault in (
+            f.steps,
+            subst (λ q. HasEnded depth (straight_outcome q args heap depth f.steps).how) (sym is)
+                (subst (λ o. HasEnded depth o.how) (sym f.same) (ends s.count s.value s.return_at s.at args heap depth 0 s.sum no_fault)),
+          );
+    }
+
+or_bytes : List ℕ → Option (List ℕ) → List ℕ
+or_bytes d None = d
+or_bytes d (Some bytes) = bytes
+
+-- where contents are told, the whole that was read is the content
+pub whole_is : (content : Option (List ℕ)) (told bytes : List ℕ) → content ≡ Some told → content ≡ replaced content bytes → told ≡ bytes
+unfolding or_bytes
+whole_is content told bytes here whole = ap (or_bytes told) (sym here ∙ whole ∙ ap (λ c. replaced c bytes) here)

@@ -1,0 +1,9 @@
+pub mod Answers
+pub mod Correct
+pub mod Grammar
+pub mod Lowering
+pub mod Meaning
+pub mod Reading
+pub mod Report
+pub mod Steps
+pub mod Words

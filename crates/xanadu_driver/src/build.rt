@@ -1,0 +1,62 @@
+//! The command `build`: from the source of one name to the text of another.
+
+ghost use Rattle.std.specs.Prelude.{◌≡◌, ◌≢◌, ◌≤◌, ℕ, List, Some, length};
+ghost use Rattle.xan_io.specs.Faults.{Rose};
+ghost use Rattle.xan_io.specs.Contents.{replaced, LeavesPrefix};
+ghost use Rattle.xanadu_tree.specs.Plain as plain;
+ghost use Rattle.xanadu_driver.specs.Grammar.{SmallReads};
+ghost use Rattle.xanadu_driver.specs.Correct.{Translates, Wrote, Cut};
+
+use crate::answer::Answer;
+use crate::reader::NotSmall;
+use crate::translate::translate;
+use std::alloc::Global;
+use xan_io::{FileFault, FileRead, Files};
+
+/// The greatest length of a source in bytes.
+const SOURCE_MOST: u64 = 1048576;
+
+/// Reads the source, and writes its text under the other name.
+pub fn build<F: Files>(alloc: Global, files: &mut F, source: &str, target: &str) -> Answer
+    ensures command { result ≢ Answer.NoCommand }
+    ensures others { (name : List ℕ) → name ≢ target.now → F.content files.new name ≡ F.content files.old name }
+    ensures read { result ≡ Answer.ReadFailed → Rose (F.read_faults files.old source.now) (F.read_faults files.new source.now) }
+    ensures write { result ≡ Answer.WriteFailed → Rose (F.write_faults files.old target.now) (F.write_faults files.new target.now) }
+    ensures form { result ≡ Answer.NotBuilt → (told : List ℕ) → F.content files.old source.now ≡ Some told → (core : plain.Program) → SmallReads told core → ⊥ }
+    ensures kept_read { result ≡ Answer.ReadFailed → F.content files.new target.now ≡ F.content files.old target.now }
+    ensures kept_form { result ≡ Answer.NotBuilt → F.content files.new target.now ≡ F.content files.old target.now }
+    ensures kept_memory { result ≡ Answer.Memory → F.content files.new target.now ≡ F.content files.old target.now }
+    ensures cut { result ≡ Answer.WriteFailed → (told : List ℕ) → F.content files.old source.now ≡ Some told → Cut told (F.content files.old target.now) (F.content files.new target.now) }
+    ensures built { (instructions : ℕ) → result ≡ Answer.Built instructions → (told : List ℕ) → F.content files.old source.now ≡ Some told → Wrote told instructions (F.content files.old target.now) (F.content files.new target.now) }
+{
+    match files.read(alloc, source, SOURCE_MOST) {
+        Ok(FileRead::Whole(bytes)) => build_bytes(alloc, files, bytes.as_slice(), target),
+        Ok(FileRead::TooLong) => Answer::NotBuilt,
+        Err(FileFault::Failed) => Answer::ReadFailed,
+        Err(FileFault::Memory) => Answer::Memory,
+    }
+}
+
+/// Writes the text of the source.
+fn build_bytes<F: Files>(alloc: Global, files: &mut F, source: &[u8], target: &str) -> Answer
+    requires { length source.now ≤ 1048576 }
+    ensures command { result ≢ Answer.NoCommand }
+    ensures read { result ≢ Answer.ReadFailed }
+    ensures others { (name : List ℕ) → name ≢ target.now → F.content files.new name ≡ F.content files.old name }
+    ensures write { result ≡ Answer.WriteFailed → Rose (F.write_faults files.old target.now) (F.write_faults files.new target.now) }
+    ensures form { result ≡ Answer.NotBuilt → (core : plain.Program) → SmallReads source.now core → ⊥ }
+    ensures kept_form { result ≡ Answer.NotBuilt → F.content files.new target.now ≡ F.content files.old target.now }
+    ensures kept_memory { result ≡ Answer.Memory → F.content files.new target.now ≡ F.content files.old target.now }
+    ensures cut { result ≡ Answer.WriteFailed → Cut source.now (F.content files.old target.now) (F.content files.new target.now) }
+    ensures built { (instructions : ℕ) → result ≡ Answer.Built instructions → Wrote source.now instructions (F.content files.old target.now) (F.content files.new target.now) }
+{
+    match translate(alloc, source) {
+        Ok(text) => match files.write(alloc, target, text.bytes.as_slice()) {
+            Ok(()) => Answer::Built(text.instructions),
+            Err(FileFault::Failed) => Answer::WriteFailed,
+            Err(FileFault::Memory) => Answer::Memory,
+        },
+        Err(NotSmall::Form) => Answer::NotBuilt,
+        Err(NotSmall::Memory) => Answer::Memory,
+    }
+}

@@ -1,0 +1,36 @@
+//! The words of a command line.
+
+ghost use Rattle.std.specs.Prelude.{◌≡◌};
+ghost use Rattle.std.specs.Option.{option_map};
+ghost use Rattle.xanadu_driver.specs.Words as spec;
+ghost use Rattle.xanadu_driver.specs.Words.{view};
+ghost use Rattle.xanadu_driver.specs.Steps.{texts};
+
+/// The command that builds the source of one name into the text of another.
+#[derive(Clone, Copy, Debug)]
+pub struct BuildCommand<'a> {
+    pub source: &'a str,
+    pub target: &'a str,
+}
+
+/// The command that the words mean, or none.
+///
+/// The first word is the command. The others are values: a word that begins with `-` and is longer than that is none.
+pub fn read_command<'a>(words: &[&'a str]) -> Option<BuildCommand<'a>>
+    ensures { spec.words_mean (texts words.now) ≡ option_map view result }
+{
+    match words {
+        [command, source, target] if *command == "build" && is_value(source) && is_value(target) =>
+            { Some(BuildCommand { source, target }) }
+        _ => None,
+    }
+}
+
+fn is_value(word: &str) -> bool
+    ensures { result ≡ spec.is_value word.now }
+{
+    match word.as_bytes() {
+        [b'-', _, ..] => false,
+        _ => true,
+    }
+}
