@@ -1,0 +1,4 @@
+pub mod Terms
+pub mod Linear
+pub mod Value
+pub mod Text

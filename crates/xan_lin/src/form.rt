@@ -1,0 +1,155 @@
+// The form and its calls.
+ghost use Rattle.std.specs.Prelude.{◌≡◌, pos, [], ◌∷◌, length, ◌≤◌, ◌++◌, OnOk, OnErr};
+ghost use Rattle.xan_lin.specs.Terms.{IsRising};
+ghost use Rattle.xan_lin.specs.Text.{form_text};
+ghost use Rattle.xan_lin.specs.Linear.{sized, sum_of, difference_of, form_of, product_of, negated_row_of};
+
+use crate::gather::gathered;
+use crate::merge::{
+    all_are_small, below_negated, held, merged, negated, number_difference, number_sum,
+};
+use crate::scale::{product, scaled};
+use crate::term::{MOST_TERMS, Memory, Term, TooLarge};
+use crate::text::{put_number, put_terms};
+use arrayvec::ArrayVec;
+use std::marker::Model;
+
+/// A linear form: at most 16 terms by rising variable, none with the coefficient 0, and a constant. Each number has a magnitude of at
+/// most `BOUND`. It is seen as the list of its terms and its constant.
+#[derive(Debug, Drop)]
+pub struct Form {
+    terms: ArrayVec<Term, 16>,
+    constant: i64,
+}
+
+impl Model for Form {
+    ghost use Rattle.xan_lin.specs.Linear.{Linear, IsForm};
+
+    ghost Value = { Linear };
+
+    ghost view = { λ form. record { terms = form.terms.items; constant = form.constant } };
+
+    ghost invariant = { λ form. IsForm (record { terms = form.terms.items; constant = form.constant }) };
+}
+
+impl Form {
+    /// The sum of the terms and the constant. Variables may repeat, in any order. `Terms` comes exactly where the sum has more than 16
+    /// terms, `Magnitude` exactly where it has not and a number of it is past `BOUND`.
+    pub fn from_terms(terms: &[Term], constant: i64) -> Result<Form, TooLarge>
+        ensures { result ≡ form_of terms.now constant }
+    {
+        let sum = gathered(terms);
+        sized_form(sum.as_slice(), &constant)
+    }
+
+    /// The form that is the variable.
+    pub fn variable(v: u32) -> Form
+        ensures { result ≡ record { terms = record { var = v; coef = pos 1 } ∷ []; constant = pos 0 } }
+    {
+        let mut terms = ArrayVec::new();
+        terms.push(Term { var: v, coef: 1 });
+        Form { terms, constant: 0 }
+    }
+
+    /// An equal form.
+    pub fn copy(&self) -> Form
+        ensures { result ≡ self.now }
+    {
+        Form {
+            terms: held(self.terms.as_slice()),
+            constant: self.constant,
+        }
+    }
+
+    /// Its terms, by rising variable.
+    pub fn terms(&self) -> &[Term]
+        ensures terms { result.now ≡ self.now.terms }
+        ensures rising { IsRising 0 result.now }
+        ensures few { length result.now ≤ 16 }
+    {
+        self.terms.as_slice()
+    }
+
+    /// Its constant.
+    pub fn constant_part(&self) -> i64
+        ensures { result ≡ self.now.constant }
+    {
+        self.constant
+    }
+
+    /// The sum. `Terms` comes exactly where it has more than 16 terms, `Magnitude` exactly where it has not and a number of it is past
+    /// `BOUND`.
+    pub fn add(&self, other: &Form) -> Result<Form, TooLarge>
+        ensures { result ≡ sum_of self.now other.now }
+    {
+        let terms = merged(self.terms.as_slice(), other.terms.as_slice());
+        let constant = number_sum(&self.constant, &other.constant);
+        sized_form(terms.as_slice(), &constant)
+    }
+
+    /// The difference. `Terms` and `Magnitude` come as at `add`.
+    pub fn sub(&self, other: &Form) -> Result<Form, TooLarge>
+        ensures { result ≡ difference_of self.now other.now }
+    {
+        let turned = negated(other.terms.as_slice());
+        let terms = merged(self.terms.as_slice(), turned.as_slice());
+        let constant = number_difference(&self.constant, &other.constant);
+        sized_form(terms.as_slice(), &constant)
+    }
+
+    /// Appends the spelling, as `+2v0-1v3+0`. Where memory runs out nothing is appended.
+    pub fn write_form(&self, out: &mut Vec<u8>) -> Result<(), Memory>
+        ensures written { OnOk result (out.new.items ≡ out.old.items ++ form_text self.now) }
+        ensures unchanged { OnErr result (out.new.items ≡ out.old.items) }
+    {
+        let mut text = ArrayVec::new();
+        put_terms(&mut text, self.terms.as_slice());
+        put_number(&mut text, &self.constant);
+        let Ok(()) = out.extend_from_slice(text.as_slice()) else {
+            return Err(Memory);
+        };
+        Ok(())
+    }
+
+    /// The product by a number. It has at most as many terms as the form, so that only `Magnitude` comes, exactly where a number of it
+    /// is past `BOUND`.
+    pub fn scale(&self, by: i64) -> Result<Form, TooLarge>
+        ensures { result ≡ product_of self.now by }
+    {
+        let Some(constant) = product(&self.constant, &by) else {
+            return Err(TooLarge::Magnitude);
+        };
+        let Some(terms) = scaled(self.terms.as_slice(), &by) else {
+            return Err(TooLarge::Magnitude);
+        };
+        Ok(Form { terms, constant })
+    }
+
+    /// The row `-e - 1` for the row `e`: it holds exactly where `e` does not. It has as many terms as `e`, so that only `Magnitude`
+    /// comes, exactly where a number of it is past `BOUND`.
+    pub fn negated_row(&self) -> Result<Form, TooLarge>
+        ensures { result ≡ negated_row_of self.now }
+    {
+        let terms = negated(self.terms.as_slice());
+        let constant = below_negated(&self.constant);
+        sized_form(terms.as_slice(), &constant)
+    }
+}
+
+// The form of an exact result, where it is within the bounds.
+fn sized_form(terms: &[Term], constant: &i64) -> Result<Form, TooLarge>
+    requires { IsRising 0 terms.now }
+    ensures { result ≡ sized terms.now constant.now }
+{
+    if terms.len() > MOST_TERMS {
+        return Err(TooLarge::Terms);
+    }
+    let fits = all_are_small(terms, constant);
+    if !fits {
+        return Err(TooLarge::Magnitude);
+    }
+    Ok(Form {
+        terms: held(terms),
+        constant: *constant,
+    })
+}

@@ -1,0 +1,22 @@
+//! Exact linear forms over numbered variables.
+//!
+//! A [`Form`] is a sum of terms and a constant. Every call is exact: it answers the form that the integers give, or says by which bound
+//! that form is too large. The crate stands on `arrayvec` and `itoa`, and no call but `write_form` takes memory.
+#![tactic(auto)]
+
+mod form;
+mod gather;
+mod laws;
+mod merge;
+mod scale;
+mod term;
+#[cfg(test)]
+mod tests;
+mod text;
+
+pub use crate::form::Form;
+pub use crate::laws::{
+    difference_subtracts_the_values, negated_row_turns_the_value, product_multiplies_the_value,
+    sum_adds_the_values, terms_add_their_values,
+};
+pub use crate::term::{BOUND, LimitKind, Memory, Term, TooLarge};
