@@ -1,0 +1,6 @@
+mod Readers
+mod Operands
+mod Lines
+mod Headers
+mod Whole
+mod Loops

@@ -1,0 +1,133 @@
+-- What is read behind the word of an instruction, and the line, are spelled so.
+use Rattle.std.proofs.Common.{◌≡◌, ℕ, ◌+◌, ◌-◌, ◌<◌, ◌≤◌, Bool, true, false, nat_lt, FitsSigned, List, ◌++◌, ℤ, pos, negsuc, codes, decimal, refl, sym, ap, ◌∙◌, arith, inl, inr}
+use Rattle.std.specs.Fmt.{signed_decimal}
+use Rattle.std.specs.Int.{w64}
+use Rattle.std.proofs.lemmas.Bool.Decides.{nat_tests}
+use Rattle.xan_read.specs.Reader.{Reader, Exact}
+use Rattle.xan_read.specs.Combinators.{give, in_turn, behind, IsBehind, WhereComes, after}
+use Rattle.xan_read.specs.Numbers.{number, IsNumber, NoDigit}
+use Rattle.xan_read.specs.Integers.{integer, IsInteger, IsFromTo}
+use Rattle.xan_read.specs.Spelled.{Any, Spelled, IsBetween}
+use Rattle.xan_read.proofs.ReaderLaws.{exact-behind, exact-where_comes, exact_as, after_other}
+use Rattle.xan_read.proofs.NumberLaws.{exact-number}
+use Rattle.xan_read.proofs.IntegerLaws.{exact-integer}
+use Rattle.xan_read.proofs.SpelledLaws.{spelled_number, spelled_behind, spelled_field, spelled_last}
+use Rattle.dtal_code.specs.Text.{place_text, IsRegister, IsPlace}
+use Rattle.dtal_text.specs.Instructions.{register, place, load, two_places, two_registers, three_registers}
+use Rattle.dtal_text.proofs.Readers.{IsMade, exact_made}
+
+-- ---- places
+
+register_text : (n : ℕ) → n < 16 → place_text n ≡ codes "r" ++ decimal n
+register_text n h = let low : nat_lt n 16 ≡ true = grind (arith, nat_tests) in rw low refl
+
+slot_text : (n : ℕ) → place_text (n + 16) ≡ codes "s" ++ decimal n
+slot_text n =
+    let high : nat_lt (n + 16) 16 ≡ false = grind (arith, nat_tests) in
+    let same : n + 16 - 16 ≡ n = omega arith in
+    rw (high, same) refl
+
+pub exact-register : Exact register (Spelled Any IsRegister place_text) NoDigit
+unfolding register
+exact-register = exact_as _ (Spelled Any (IsBetween 0 15) (λ n. codes "r" ++ decimal n)) _ NoDigit NoDigit
+    (spelled_behind (codes "r") _ _ _ _ NoDigit (spelled_number 0 15 (omega arith) (omega arith)))
+    (λ n text s. let high = s.fits.1 in record { known = tt; fits = omega arith; is = s.is ∙ sym (register_text n (omega arith)) })
+    (λ n text s. let high = s.fits in record { known = tt; fits = (omega arith, omega arith); is = s.is ∙ register_text n s.fits })
+    (λ _ h. h)
+
+abbrev IsSlot : ℕ → List ℕ → Type 0
+IsSlot = IsBehind (codes "s") (IsMade (λ n. n + 16) (IsBetween 0 239) decimal)
+
+exact-slot : Exact (behind (codes "s") (in_turn (number 0 239) (λ n. give (n + 16)))) IsSlot NoDigit
+exact-slot = exact-behind (codes "s") _ _ NoDigit (exact_made (λ n. n + 16) _ _ _ NoDigit (spelled_number 0 239 (omega arith) (omega arith)))
+
+abbrev IsPlaceText : ℕ → List ℕ → Type 0
+IsPlaceText = WhereComes 114 (IsNumber 0 15) IsSlot
+
+place_from : (p : ℕ) (text : List ℕ) → IsPlaceText p text → Spelled Any IsPlace place_text p text
+place_from p text (inl i) =
+    let high = i.is.at_most in
+    record { known = tt; fits = omega arith; is = i.parts ∙ ap (λ (t : List ℕ). codes "r" ++ t) i.is.is ∙ sym (register_text p (omega arith)) }
+place_from p text (inr i) =
+    let m = i.is in
+    let high = m.fits.1 in
+    let value = m.value in
+    record {
+      known = tt;
+      fits = omega arith;
+      is = i.parts ∙ ap (λ (t : List ℕ). codes "s" ++ t) m.is ∙ sym (slot_text m.from) ∙ ap place_text (sym m.value);
+    }
+
+place_to : (p : ℕ) (text : List ℕ) → Spelled Any IsPlace place_text p text → IsPlaceText p text
+place_to p text s = go (nat_lt p 16) refl
+  where
+    go : (b : Bool) → nat_lt p 16 ≡ b → IsPlaceText p text
+    go true e =
+        let low : p < 16 = grind (arith, nat_tests) in
+        inl (record { back = decimal p; is = record { at_least = omega arith; at_most = omega arith; is = refl }; parts = s.is ∙ register_text p low })
+    go false e =
+        let high : 16 ≤ p = grind (arith, nat_tests) in
+        let fits = s.fits in
+        let same : p ≡ (p - 16) + 16 = omega arith in
+        inr (record {
+          back = decimal (p - 16);
+          is = record { from = p - 16; value = same; fits = (omega arith, omega arith); is = refl };
+          parts = s.is ∙ ap place_text same ∙ slot_text (p - 16);
+        })
+
+pub exact-place : Exact place (Spelled Any IsPlace place_text) NoDigit
+unfolding place
+exact-place = exact_as _ IsPlaceText _ NoDigit NoDigit
+    (exact-where_comes 114 _ _ (IsNumber 0 15) IsSlot NoDigit NoDigit (exact-number 0 15 (omega arith) (omega arith)) exact-slot
+    (λ x text rest i h. (h, ap (λ (t : List ℕ). after 114 (t ++ rest)) i.parts ∙ after_other 114 115 (i.back ++ rest) (λ e. omega arith))))
+    place_from place_to (λ _ h. h)
+
+-- ---- numbers
+
+load_fits : (z : ℤ) → IsFromTo 9223372036854775808 9223372036854775807 z → FitsSigned w64 z
+load_fits (pos n) h = grind arith
+load_fits (negsuc n) h = grind arith
+
+load_within : (z : ℤ) → FitsSigned w64 z → IsFromTo 9223372036854775808 9223372036854775807 z
+load_within (pos n) h = let s = h.sfits in omega arith
+load_within (negsuc n) h = let s = h.sfits in omega arith
+
+exact-value : Exact (integer 9223372036854775808 9223372036854775807) (Spelled Any (FitsSigned w64) signed_decimal) NoDigit
+exact-value = exact_as _ (IsInteger 9223372036854775808 9223372036854775807) _ NoDigit NoDigit
+    (exact-integer 9223372036854775808 9223372036854775807 (omega arith) (omega arith) (omega arith))
+    (λ z text i. record { known = tt; fits = load_fits z i.within; is = i.is })
+    (λ z text s. record { within = load_within z s.fits; is = s.is }) (λ _ h. h)
+
+-- ---- two and three of them
+
+module _ {A B : Type 0} (p : Reader A) (q : Reader B) (P : A → Type 0) (Q : B → Type 0) (first : A → List ℕ) (second : B → List ℕ)
+    (one : Exact p (Spelled Any P first) NoDigit) (other : Exact q (Spelled Any Q second) NoDigit) where
+  pub exact_pair : Exact (in_turn p (λ a. behind (codes " ") (in_turn q (λ b. give (a, b)))))
+      (Spelled Any (λ (m : A × B). P m.0 × Q m.1) (λ (m : A × B). first m.0 ++ (codes " " ++ second m.1))) NoDigit
+  exact_pair =
+      spelled_field (λ (m : A × B). m.0) _ _ Any P (λ (m : A × B). Q m.1) first (λ (m : A × B). codes " " ++ second m.1) NoDigit NoDigit one
+      (λ a _. spelled_behind (codes " ") _ _ _ _ NoDigit
+      (spelled_last (λ (m : A × B). m.1) (λ b. (a, b)) _ (λ (m : A × B). Unit {0} × (m.0 ≡ a)) Q second NoDigit other (λ _. (tt, refl)) (λ _. refl) (λ m known. rw (← known.1) refl)))
+      (λ _ _ _ _. refl)
+
+abbrev pub Both : {A B : Type 0} → (A → Type 0) → (B → Type 0) → A × B → Type 0
+Both P Q m = P m.0 × Q m.1
+
+abbrev pub spaced : {A B : Type 0} → (A → List ℕ) → (B → List ℕ) → A × B → List ℕ
+spaced first second m = first m.0 ++ (codes " " ++ second m.1)
+
+pub exact-load : Exact load (Spelled Any (Both IsRegister (FitsSigned w64)) (spaced place_text signed_decimal)) NoDigit
+unfolding load
+exact-load = exact_pair _ _ _ _ place_text signed_decimal exact-register exact-value
+
+pub exact-two_places : Exact two_places (Spelled Any (Both IsPlace IsPlace) (spaced place_text place_text)) NoDigit
+unfolding two_places
+exact-two_places = exact_pair _ _ _ _ place_text place_text exact-place exact-place
+
+pub exact-two_registers : Exact two_registers (Spelled Any (Both IsRegister IsRegister) (spaced place_text place_text)) NoDigit
+unfolding two_registers
+exact-two_registers = exact_pair _ _ _ _ place_text place_text exact-register exact-register
+
+pub exact-three_registers : Exact three_registers (Spelled Any (Both IsRegister (Both IsRegister IsRegister)) (spaced place_text (spaced place_text place_text))) NoDigit
+unfolding three_registers
+exact-three_registers = exact_pair _ _ _ _ place_text (spaced place_text place_text) exact-register exact-two_registers

@@ -1,0 +1,3 @@
+pub mod StraightText
+pub mod Instructions
+pub mod Programs
