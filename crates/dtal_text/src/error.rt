@@ -1,8 +1,4 @@
-ghost use Rattle.std.specs.Prelude.{◌≡◌};
-ghost use Rattle.dtal_text.specs.declared.error.StraightError.TheVariants as error;
-
 use thiserror::Error;
-use xan_io::Memory;
 
 /// Why some bytes give no straight program.
 #[derive(Clone, Copy, Debug, PartialEq, Eq, Error)]
@@ -13,12 +9,4 @@ pub enum StraightError {
     /// Memory ran out.
     #[error("memory")]
     Memory,
-}
-
-impl From<Memory> for StraightError {
-    ghost from_gives = { λ _ e. e ≡ error.Memory };
-
-    fn from(_error: Memory) -> StraightError {
-        StraightError::Memory
-    }
 }
