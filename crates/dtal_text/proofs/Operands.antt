@@ -6,11 +6,10 @@ use Rattle.std.proofs.lemmas.Bool.Decides.{nat_tests}
 use Rattle.xan_read.specs.Reader.{Reader, Exact}
 use Rattle.xan_read.specs.Combinators.{give, in_turn, behind, IsBehind, WhereComes, after}
 use Rattle.xan_read.specs.Numbers.{number, IsNumber, NoDigit}
-use Rattle.xan_read.specs.Integers.{integer, IsInteger, IsFromTo}
 use Rattle.xan_read.specs.Spelled.{Any, Spelled, IsBetween}
 use Rattle.xan_read.proofs.ReaderLaws.{exact-behind, exact-where_comes, exact_as, after_other}
 use Rattle.xan_read.proofs.NumberLaws.{exact-number}
-use Rattle.xan_read.proofs.IntegerLaws.{exact-integer}
+use Rattle.xan_io.proofs.ArgumentLaws.{exact-integer64}
 use Rattle.xan_read.proofs.SpelledLaws.{spelled_number, spelled_behind, spelled_field, spelled_last}
 use Rattle.dtal_code.specs.Text.{place_text, IsRegister, IsPlace}
 use Rattle.dtal_text.specs.Instructions.{register, place, load, two_places, two_registers, three_registers}
@@ -82,22 +81,6 @@ exact-place = exact_as _ IsPlaceText _ NoDigit NoDigit
     (λ x text rest i h. (h, ap (λ (t : List ℕ). after 114 (t ++ rest)) i.parts ∙ after_other 114 115 (i.back ++ rest) (λ e. omega arith))))
     place_from place_to (λ _ h. h)
 
--- ---- numbers
-
-load_fits : (z : ℤ) → IsFromTo 9223372036854775808 9223372036854775807 z → FitsSigned w64 z
-load_fits (pos n) h = grind arith
-load_fits (negsuc n) h = grind arith
-
-load_within : (z : ℤ) → FitsSigned w64 z → IsFromTo 9223372036854775808 9223372036854775807 z
-load_within (pos n) h = let s = h.sfits in omega arith
-load_within (negsuc n) h = let s = h.sfits in omega arith
-
-exact-value : Exact (integer 9223372036854775808 9223372036854775807) (Spelled Any (FitsSigned w64) signed_decimal) NoDigit
-exact-value = exact_as _ (IsInteger 9223372036854775808 9223372036854775807) _ NoDigit NoDigit
-    (exact-integer 9223372036854775808 9223372036854775807 (omega arith) (omega arith) (omega arith))
-    (λ z text i. record { known = tt; fits = load_fits z i.within; is = i.is })
-    (λ z text s. record { within = load_within z s.fits; is = s.is }) (λ _ h. h)
-
 -- ---- two and three of them
 
 module _ {A B : Type 0} (p : Reader A) (q : Reader B) (P : A → Type 0) (Q : B → Type 0) (first : A → List ℕ) (second : B → List ℕ)
@@ -118,7 +101,7 @@ spaced first second m = first m.0 ++ (codes " " ++ second m.1)
 
 pub exact-load : Exact load (Spelled Any (Both IsRegister (FitsSigned w64)) (spaced place_text signed_decimal)) NoDigit
 unfolding load
-exact-load = exact_pair _ _ _ _ place_text signed_decimal exact-register exact-value
+exact-load = exact_pair _ _ _ _ place_text signed_decimal exact-register exact-integer64
 
 pub exact-two_places : Exact two_places (Spelled Any (Both IsPlace IsPlace) (spaced place_text place_text)) NoDigit
 unfolding two_places

@@ -7,3 +7,4 @@ pub mod Written
 pub mod InMemory
 pub mod Listed
 pub mod ListedPuts
+pub mod Arguments

@@ -3,11 +3,12 @@
 //! Two traits, [`Files`] and [`Sink`], say what a program may learn of its files and its output: what they hold, where that is told,
 //! and how many calls have failed. There are files and a sink in memory, whose calls fail as a test wants, and those of the host.
 //! It also owns the words in which a promise about a whole run is stated: the outcome of a run, the faults of its arguments, and what
-//! it means that two programs agree. It stands on `xan_seq` alone.
+//! it means that two programs agree. It stands on `xan_read` and `xan_seq`.
 #![tactic(auto)]
 
 mod agreement;
 mod arg;
+mod arguments;
 mod files;
 mod host_files;
 mod host_sink;
@@ -23,6 +24,7 @@ mod tests;
 
 pub use agreement::simulation_agrees;
 pub use arg::Arg;
+pub use arguments::{ArgError, read_arg, words_spell_one_argument};
 pub use files::{FileFault, FileRead, Files};
 pub use host_files::HostFiles;
 pub use host_sink::HostSink;

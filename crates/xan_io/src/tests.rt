@@ -1,4 +1,7 @@
-use crate::{FileFault, FileRead, Files, HostSink, MemFiles, MemSink, Name, SafeFiles, Sink};
+use crate::{
+    Arg, ArgError, FileFault, FileRead, Files, HostSink, MemFiles, MemSink, Name, SafeFiles, Sink,
+    read_arg,
+};
 use std::process::Abort;
 use std::test::Fail;
 
@@ -103,4 +106,99 @@ fn host_sink(rt: HostRuntime) {
     let mut sink = HostSink::new(&rt);
     assert!(rt; sink.put(b"built\n").is_ok());
     assert!(rt; sink.put(b"").is_ok());
+}
+
+const NUMBERS: &[(&str, i64)] = &[
+    ("int=0", 0),
+    ("int=7", 7),
+    ("int=-1", -1),
+    ("int=10", 10),
+    ("int=9223372036854775807", i64::MAX),
+    ("int=-9223372036854775808", i64::MIN),
+];
+
+const ARRAYS: &[(&str, &[i64])] = &[
+    ("arr=", &[]),
+    ("arr=5", &[5]),
+    ("arr=4,5,-2", &[4, 5, -2]),
+    (
+        "arr=0,-9223372036854775808,9223372036854775807",
+        &[0, i64::MIN, i64::MAX],
+    ),
+];
+
+const NO_ARGUMENTS: &[&str] = &[
+    "",
+    "i",
+    "int",
+    "int=",
+    "int=-",
+    "int=-0",
+    "int=00",
+    "int=01",
+    "int=+1",
+    "int= 1",
+    "int=1 ",
+    "int=1,2",
+    "int=0x1",
+    "int=9223372036854775808",
+    "int=-9223372036854775809",
+    "int=99999999999999999999",
+    "Int=1",
+    "bool=",
+    "bool=True",
+    "bool=truer",
+    "bool=1",
+    "arr",
+    "arr=,",
+    "arr=1,",
+    "arr=,1",
+    "arr=1,,2",
+    "arr=1, 2",
+    "arr=1,-0",
+    "arr=9223372036854775808",
+    "1",
+];
+
+fn is_number(rt: &HostRuntime, word: &str, number: i64) -> bool {
+    match read_arg(rt.alloc(), word) {
+        Ok(Arg::Int(read)) => read == number,
+        _ => false,
+    }
+}
+
+fn is_truth(rt: &HostRuntime, word: &str, truth: bool) -> bool {
+    match read_arg(rt.alloc(), word) {
+        Ok(Arg::Bool(read)) => read == truth,
+        _ => false,
+    }
+}
+
+fn is_array(rt: &HostRuntime, word: &str, cells: &[i64]) -> bool {
+    match read_arg(rt.alloc(), word) {
+        Ok(Arg::Array(read)) => read.as_slice() == cells,
+        _ => false,
+    }
+}
+
+fn is_refused(rt: &HostRuntime, word: &str) -> bool {
+    match read_arg(rt.alloc(), word) {
+        Err(error) => error == ArgError::Text,
+        Ok(_) => false,
+    }
+}
+
+#[test]
+fn arguments(rt: HostRuntime) {
+    for (word, number) in NUMBERS {
+        assert!(rt; is_number(&rt, word, *number), "{word}");
+    }
+    for (word, cells) in ARRAYS {
+        assert!(rt; is_array(&rt, word, cells), "{word}");
+    }
+    for word in NO_ARGUMENTS {
+        assert!(rt; is_refused(&rt, word), "{word}");
+    }
+    assert!(rt; is_truth(&rt, "bool=true", true));
+    assert!(rt; is_truth(&rt, "bool=false", false));
 }
