@@ -1,5 +1,5 @@
 -- Runs worked out by hand, which the definitions give by computation.
-use Rattle.std.proofs.Common.{◌≡◌, pos, negsuc, ◌^◌, ◌-◌, true, List, [], ◌∷◌, Some, codes, refl}
+use Rattle.std.proofs.Common.{◌≡◌, ◌++◌, ℤ, lit<, lit≤, pos, negsuc, ◌^◌, ◌-◌, true, List, [], ◌∷◌, Some, codes, refl}
 use Rattle.xan_io.specs.declared.arg.Arg.TheVariants.{Int, Bool}
 use Rattle.xan_io.specs.Outcome.{Returned, NoStore, Overflow, Stuck, Running}
 use Rattle.xan_io.specs.Entry.{ArgCount, ArgKind}
@@ -7,6 +7,7 @@ use Rattle.dtal_code.specs.declared.op.Op.{Op}
 use Rattle.dtal_code.specs.declared.op.Op.TheVariants.{Li, Mv, Add, Sub, Ret, Print}
 use Rattle.dtal_code.specs.declared.straight.Straight.{Straight}
 use Rattle.dtal_code.specs.Machine.{step, run}
+use Rattle.dtal_code.specs.Touched.{Block, blocks_words, IsAllocated}
 use Rattle.dtal_code.specs.Entry.{places_of, straight_fault, straight_outcome}
 
 -- x + y - 3
@@ -59,3 +60,24 @@ echo_prints = refl
 past_end : straight_outcome (record { name = codes "main"; params = 0; code = Print 0 ∷ [] }) [] 0 1 2 ≡ record { printed = pos 0 ∷ []; how = Stuck }
 unfolding straight_outcome run step places_of
 past_end = refl
+
+-- two cells, then an empty block: the last word of the second block is allocated
+second_block : IsAllocated (pos 2 ∷ pos 2 ∷ pos 7 ∷ pos 8 ∷ pos 4 ∷ pos 0 ∷ []) (pos 5)
+second_block = record {
+  before = record { descriptor = pos 2; cells = pos 7 ∷ pos 8 ∷ [] } ∷ [];
+  block = record { descriptor = pos 4; cells = [] };
+  behind = [];
+  divided = refl;
+  number = 5;
+  is = refl;
+  from = lit≤ tt;
+  within = lit< tt;
+}
+
+-- an empty store has no allocated address
+empty_store : (address : ℤ) → IsAllocated [] address → ⊥
+empty_store address allocated = no_words allocated.before allocated.block allocated.behind allocated.divided
+  where
+    no_words : (before : List Block) (block : Block) (behind : List Block) → [] ≡ blocks_words (before ++ (block ∷ behind)) → ⊥
+    no_words [] block behind e = cc
+    no_words (first ∷ before) block behind e = cc

@@ -6,7 +6,7 @@ use Rattle.xan_io.specs.Outcome.{NoStore, Stuck, Outcome}
 use Rattle.xan_io.specs.Entry.{EntryFault, ArgCount, ArgKind}
 use Rattle.dtal_code.specs.declared.op.Op.{Op}
 use Rattle.dtal_code.specs.declared.straight.Straight.{Straight}
-use Rattle.dtal_code.specs.Machine.{State, run}
+use Rattle.dtal_code.specs.Machine.{State, run, comes_to}
 
 -- ---- faults of the arguments
 
@@ -60,3 +60,11 @@ begun code steps None (Some state) = run code steps [] state
 -- with a fault nothing is meant by it
 unfoldable pub straight_outcome : Straight → List Arg → ℕ → ℕ → ℕ → Outcome
 straight_outcome program args heap depth steps = begun program.code steps (straight_fault program args) (straight_entry args heap depth)
+
+-- the state that this run has come to, where it goes on
+abbrev pub come_to : List Op → ℕ → Option State → Option State
+come_to code steps None = None
+come_to code steps (Some state) = comes_to code steps state
+
+unfoldable pub straight_state : Straight → List Arg → ℕ → ℕ → ℕ → Option State
+straight_state program args heap depth steps = come_to program.code steps (straight_entry args heap depth)

@@ -99,3 +99,12 @@ after (Off how) printed more = record { printed = printed; how = how }
 unfoldable pub run : List Op → ℕ → List ℤ → State → Outcome
 run code zero printed state = record { printed = printed; how = Running }
 run code (suc steps) printed state = after (step code state) printed (run code steps)
+
+-- the state that a run from this state has come to after a number of steps; where it has ended before, there is none
+abbrev pub goes_to : Next → (State → Option State) → Option State
+goes_to (On printed next) more = more next
+goes_to (Off how) more = None
+
+unfoldable pub comes_to : List Op → ℕ → State → Option State
+comes_to code zero state = Some state
+comes_to code (suc steps) state = goes_to (step code state) (comes_to code steps)

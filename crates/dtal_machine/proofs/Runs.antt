@@ -1,21 +1,24 @@
--- Runs of an accepted program: each state on the way fits, and so none is stuck.
-use Rattle.std.proofs.Common.{◌≡◌, ◌≢◌, ℕ, zero, suc, ◌<◌, ◌≤◌, ℤ, ◌+ℤ◌, ◌-ℤ◌, Bool, true, false, IsTrue, FitsSigned, ⊎_elim, List, [], ◌∷◌, ◌++◌, length, Option, Some, None, option_to_list, slice_get, slice_set, All, refl, sym, ap, subst, ◌∙◌, arith, length-append, get_or-set_other, ◌&&◌}
+-- Runs of an accepted program: each state on the way fits, so that it is safe, and each step but the last moves on by one instruction.
+use Rattle.std.proofs.Common.{◌≡◌, ◌≢◌, ℕ, zero, suc, ◌+◌, ◌<◌, ◌≤◌, ℤ, ◌+ℤ◌, ◌-ℤ◌, Bool, true, false, IsTrue, FitsSigned, ⊎_elim, List, [], ◌∷◌, ◌++◌, length, Option, Some, None, option_to_list, slice_get, slice_set, All, refl, sym, ap, subst, ◌∙◌, arith, length-append, get_or-set_other, ◌&&◌}
 use Rattle.std.proofs.lemmas.Bool.{cases_lt, cases_Bool, and_parts}
 use Rattle.std.proofs.lemmas.List.{length-replicate}
+use Rattle.std.proofs.lemmas.List.Elements.{All-nil}
 use Rattle.std.proofs.lemmas.Option.{none-some, slice_get_within, get_or_from_slice_get}
 use Rattle.std.specs.Int.{w64}
-use Rattle.xan_io.specs.Outcome.{Stuck, NoStore, Overflow}
+use Rattle.xan_io.specs.Outcome.{How, Returned, Stuck, NoStore, Overflow, Running}
 use Rattle.xan_io.specs.declared.arg.Arg.{Arg}
 use Rattle.dtal_code.specs.declared.op.Op.{Op}
 use Rattle.dtal_code.specs.declared.op.Op.TheVariants.{Li, Mv, Add, Sub, Ret, Print}
 use Rattle.dtal_code.specs.declared.straight.Straight.{Straight}
 use Rattle.dtal_code.specs.Text.{IsOp, IsLast, EndsLast}
-use Rattle.dtal_code.specs.Machine.{State, Next, On, Off, step, run, after, moved_on, goes_on, fits_word}
-use Rattle.dtal_code.specs.Entry.{places_of, arg_words, straight_fault, first_state, straight_outcome}
+use Rattle.dtal_code.specs.Machine.{Activation, State, Next, On, Off, step, run, after, goes_to, comes_to, moved_on, goes_on, fits_word}
+use Rattle.dtal_code.specs.Entry.{places_of, arg_words, straight_fault, first_state, straight_outcome, straight_state}
+use Rattle.dtal_code.specs.Touched.{touches, touched_at, touched_by, touched, words_after, IsAllocated, IsSafe, IsSafeRun}
 use Rattle.dtal_code.proofs.Steps.{length-put, get_within, length-places_of, fits_word-true, fits_word-fits, step-li, step-mv, step-add, step-add_overflow, step-sub, step-sub_overflow, step-print, step-ret_first, straight-no_depth, straight-runs}
 use Rattle.dtal_code.proofs.Arguments.{length-arg_words, fault-none_count}
 use Rattle.dtal_machine.specs.Typing.{has_type, first_types, types_after, reads_typed, IsAccepted}
 use Rattle.dtal_machine.specs.Fits.{Fits}
+use Rattle.dtal_machine.specs.Ending.{HasEnded}
 use Rattle.dtal_machine.proofs.Typings.{there_is}
 
 -- ---- code
@@ -61,31 +64,66 @@ after_exists (Sub rd ra rb) typed place o exist h = let lt : rd < 256 = omega (a
 after_exists (Ret p) typed place o exist h = exist place h
 after_exists (Print ra) typed place o exist h = exist place h
 
+-- ---- what is touched
+
+touches_none : (op : Op) (state : State) (top : Activation) → touches op state top ≡ []
+touches_none (Li rd number) state top = refl
+touches_none (Mv p q) state top = refl
+touches_none (Add rd ra rb) state top = refl
+touches_none (Sub rd ra rb) state top = refl
+touches_none (Ret p) state top = refl
+touches_none (Print ra) state top = refl
+
+touched_at_none : (fetched : Option Op) (state : State) (top : Activation) → touched_at fetched state top ≡ []
+touched_at_none None state top = refl
+touched_at_none (Some op) state top = touches_none op state top
+
+touched_by_none : (code : List Op) (state : State) (activations : List Activation) → touched_by code state activations ≡ []
+touched_by_none code state [] = refl
+touched_by_none code state (top ∷ callers) = touched_at_none (slice_get code top.at) state top
+
+-- no address is touched, so that each one that is has any property
+touches_nothing : (code : List Op) (state : State) (Holds : ℤ → Type 0) → All Holds (touched code state)
+unfolding touched
+touches_nothing code state Holds = subst (All Holds) (sym (touched_by_none code state state.activations)) (All-nil Holds)
+
+-- ---- ends
+
+ended-not_stuck : (how : How) → HasEnded how → how ≢ Stuck
+ended-not_stuck (Returned word) ended e = cc
+ended-not_stuck Overflow ended e = cc
+ended-not_stuck NoStore ended e = absurd ended
+ended-not_stuck Stuck ended e = absurd ended
+ended-not_stuck Running ended e = absurd ended
+
 -- ---- steps
 
 module _ (program : Straight) (accepted : IsAccepted program) where
-  -- after a step: another state that fits, or an end that is not stuck
-  abbrev pub Goes : Next → Type 0
-  Goes (On printed state) = Fits program accepted.before state
-  Goes (Off how) = how ≢ Stuck
-
   module _ (state : State) (fits : Fits program accepted.before state) where
+    -- after a step: a state that fits at the next instruction, or an end of an instruction
+    abbrev pub Goes : Next → Type 0
+    Goes (On printed next) = (to : Fits program accepted.before next) × (to.top.at ≡ suc fits.top.at)
+    Goes (Off how) = HasEnded how
+
     -- the activation has moved on, over as many places
     on : (op : Op) (places : List ℤ) (printed : Option ℤ) → slice_get program.code fits.top.at ≡ Some op → (IsLast op → ⊥)
         → length places ≡ length fits.top.places → Goes (goes_on state fits.top [] printed places)
-    on op places printed f not_last same = record {
-      top = moved_on fits.top places;
-      only = refl;
-      first = fits.first;
-      within = at_last program.code fits.top.at op accepted.straight.ends f not_last;
-      places = same ∙ fits.places;
-      exist = λ place h.
-          let typed : IsTrue (has_type (types_after op (accepted.before fits.top.at)) place) =
-          subst (λ t. IsTrue (has_type t place)) (accepted.typing.next fits.top.at op fits.within f) h in
-          let old : (p : ℕ) → IsTrue (has_type (accepted.before fits.top.at) p) → p < 256 = λ p t. let lt = fits.exist p t in omega (arith, fits.places) in
-          let lt = after_exists op (accepted.before fits.top.at) place (op_at program.code fits.top.at op accepted.straight.ops f) old typed in
-          omega (arith, same, fits.places);
-    }
+    on op places printed f not_last same = (
+      record {
+        top = moved_on fits.top places;
+        only = refl;
+        first = fits.first;
+        within = at_last program.code fits.top.at op accepted.straight.ends f not_last;
+        places = same ∙ fits.places;
+        exist = λ place h.
+            let typed : IsTrue (has_type (types_after op (accepted.before fits.top.at)) place) =
+            subst (λ t. IsTrue (has_type t place)) (accepted.typing.next fits.top.at op fits.within f) h in
+            let old : (p : ℕ) → IsTrue (has_type (accepted.before fits.top.at) p) → p < 256 = λ p t. let lt = fits.exist p t in omega (arith, fits.places) in
+            let lt = after_exists op (accepted.before fits.top.at) place (op_at program.code fits.top.at op accepted.straight.ops f) old typed in
+            omega (arith, same, fits.places);
+      },
+      refl,
+    )
 
     back : (next : Next) → step program.code state ≡ next → Goes next → Goes (step program.code state)
     back next e g = subst Goes (sym e) g
@@ -97,7 +135,7 @@ module _ (program : Straight) (accepted : IsAccepted program) where
     exact op rd number f not_last written over =
         ⊎_elim
         (λ yes. back _ (written (fits_word-fits number yes)) (on op (slice_set fits.top.places rd number) None f not_last (length-put fits.top.places rd number)))
-        (λ no. back _ (over (λ h. let clash : true ≡ false = sym (fits_word-true number h) ∙ no in cc)) (λ e. cc))
+        (λ no. back _ (over (λ h. let clash : true ≡ false = sym (fits_word-true number h) ∙ no in cc)) tt)
         (cases_Bool (fits_word number))
 
     one_read : (place : ℕ) → IsTrue (has_type (accepted.before fits.top.at) place && true) → (word : ℤ) × (slice_get fits.top.places place ≡ Some word)
@@ -134,7 +172,7 @@ module _ (program : Straight) (accepted : IsAccepted program) where
         (λ h. step-sub_overflow program.code state fits.top [] fits.only rd ra rb w.0.0 w.1.0 f w.0.1 w.1.1 h)
     by_op (Ret p) f o r =
         let w = one_read p r in
-        back _ (step-ret_first program.code state fits.top [] fits.only p w.0 f w.1 fits.first) (λ e. cc)
+        back _ (step-ret_first program.code state fits.top [] fits.only p w.0 f w.1 fits.first) tt
     by_op (Print ra) f o r =
         let w = one_read ra r in
         back _ (step-print program.code state fits.top [] fits.only ra w.0 f w.1) (on (Print ra) fits.top.places (Some w.0) f (λ e. e) refl)
@@ -146,10 +184,23 @@ module _ (program : Straight) (accepted : IsAccepted program) where
         (accepted.typing.rules fits.top.at there.0 fits.within there.1)
 
     pub never_stuck : step program.code state ≢ Off Stuck
-    never_stuck e = let not : Goes (Off Stuck) = subst Goes e steps_well in not refl
+    never_stuck e = subst Goes e steps_well
 
     pub stays_fit : (next : State) (printed : Option ℤ) → step program.code state ≡ On printed next → Fits program accepted.before next
-    stays_fit next printed e = subst Goes e steps_well
+    stays_fit next printed e = let g : Goes (On printed next) = subst Goes e steps_well in g.0
+
+    pub is_safe : IsSafe program.code state
+    is_safe =
+        let there = there_is program.code fits.top.at fits.within in
+        record {
+          top = fits.top;
+          callers = [];
+          uppermost = fits.only;
+          op = there.0;
+          exists = there.1;
+          goes = never_stuck;
+          allocated = touches_nothing program.code state (IsAllocated (words_after state (step program.code state)));
+        }
 
   -- ---- runs
 
@@ -157,10 +208,33 @@ module _ (program : Straight) (accepted : IsAccepted program) where
   unfolding run
   run_never_stuck zero printed state fits = λ e. cc
   run_never_stuck (suc steps) printed state fits =
-      elim (step program.code state) as (λ next. Goes next → (after next printed (run program.code steps)).how ≢ Stuck) [
-        | On number next ↦ λ g. run_never_stuck steps (printed ++ option_to_list number) next g
+      elim (step program.code state) as (λ next. Goes state fits next → (after next printed (run program.code steps)).how ≢ Stuck) [
+        | On number next ↦ λ g. run_never_stuck steps (printed ++ option_to_list number) next g.0
+        | Off how ↦ λ g. ended-not_stuck how g
+      ] (steps_well state fits)
+
+  -- a run of as many steps as there are instructions left has ended
+  pub run_ends : (steps : ℕ) (printed : List ℤ) (state : State) (fits : Fits program accepted.before state) → length program.code ≤ fits.top.at + steps
+      → HasEnded (run program.code steps printed state).how
+  unfolding run
+  run_ends zero printed state fits le = let lt = fits.within in absurd (omega arith)
+  run_ends (suc steps) printed state fits le =
+      elim (step program.code state) as (λ next. Goes state fits next → HasEnded (after next printed (run program.code steps)).how) [
+        | On number next ↦ λ g.
+            let left : length program.code ≤ g.0.top.at + steps = omega (arith, g.1, le) in
+            run_ends steps (printed ++ option_to_list number) next g.0 left
         | Off how ↦ λ g. g
       ] (steps_well state fits)
+
+  pub comes_to_safe : (steps : ℕ) (state : State) → Fits program accepted.before state → (to : State) → comes_to program.code steps state ≡ Some to
+      → IsSafe program.code to
+  unfolding comes_to
+  comes_to_safe zero state fits to e = let same : state ≡ to = cc in subst (IsSafe program.code) same (is_safe state fits)
+  comes_to_safe (suc steps) state fits to e =
+      elim (step program.code state) as (λ next. Goes state fits next → goes_to next (comes_to program.code steps) ≡ Some to → IsSafe program.code to) [
+        | On number next ↦ λ g f. comes_to_safe steps next g.0 to f
+        | Off how ↦ λ g f. absurd (none-some to f)
+      ] (steps_well state fits) e
 
   pub first_fits : (args : List Arg) (heap depth : ℕ) → straight_fault program args ≡ None → Fits program accepted.before (first_state args heap depth)
   first_fits args heap depth none =
@@ -178,9 +252,33 @@ module _ (program : Straight) (accepted : IsAccepted program) where
             let lt = typed_within (first_types program.params) place typed in omega (arith, all, types);
       }
 
-pub outcome_never_stuck : (program : Straight) (args : List Arg) (heap depth steps : ℕ) → IsAccepted program → straight_fault program args ≡ None
+outcome_never_stuck : (program : Straight) (args : List Arg) (heap depth steps : ℕ) → IsAccepted program → straight_fault program args ≡ None
     → (straight_outcome program args heap depth steps).how ≢ Stuck
 outcome_never_stuck program args heap zero steps accepted none = λ e. let clash : NoStore ≡ Stuck = sym (ap (λ o. o.how) (straight-no_depth program args heap steps none)) ∙ e in cc
 outcome_never_stuck program args heap (suc depth) steps accepted none =
     λ e. run_never_stuck program accepted steps [] (first_state args heap (suc depth)) (first_fits program accepted args heap (suc depth) none)
     (sym (ap (λ o. o.how) (straight-runs program args heap depth steps none)) ∙ e)
+
+come_to_safe : (program : Straight) (args : List Arg) (heap depth steps : ℕ) → IsAccepted program → straight_fault program args ≡ None
+    → (state : State) → straight_state program args heap depth steps ≡ Some state → IsSafe program.code state
+unfolding straight_state
+come_to_safe program args heap zero steps accepted none state e = absurd (none-some state e)
+come_to_safe program args heap (suc depth) steps accepted none state e =
+    comes_to_safe program accepted steps (first_state args heap (suc depth)) (first_fits program accepted args heap (suc depth) none) state e
+
+pub accepted-runs_safely : (program : Straight) (args : List Arg) (heap depth steps : ℕ) → IsAccepted program → straight_fault program args ≡ None
+    → IsSafeRun program args heap depth steps
+accepted-runs_safely program args heap depth steps accepted none = record {
+  not_stuck = outcome_never_stuck program args heap depth steps accepted none;
+  safe = come_to_safe program args heap depth steps accepted none;
+}
+
+-- where there may be an activation, the run ends within as many steps as there are instructions
+pub accepted-ends : (program : Straight) (args : List Arg) (heap depth steps : ℕ) → IsAccepted program → straight_fault program args ≡ None
+    → 0 < depth → length program.code ≤ steps → HasEnded (straight_outcome program args heap depth steps).how
+accepted-ends program args heap zero steps accepted none some long = absurd (omega arith)
+accepted-ends program args heap (suc depth) steps accepted none some long =
+    let fits = first_fits program accepted args heap (suc depth) none in
+    let enough : length program.code ≤ fits.top.at + steps = omega (arith, long) in
+    subst (λ o. HasEnded o.how) (sym (straight-runs program args heap depth steps none))
+    (run_ends program accepted steps [] (first_state args heap (suc depth)) fits enough)

@@ -4,3 +4,4 @@ pub mod Fits
 pub mod Steps
 pub mod Loading
 pub mod Acting
+pub mod Ending

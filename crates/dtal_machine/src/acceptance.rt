@@ -1,8 +1,8 @@
-ghost use Rattle.std.specs.Prelude.{◌≡◌, ℕ, ◌≤◌, ◌<◌, ◌^◌, List, codes, bytes_eq, length, IfOk, IfErr, None, ◌≢◌};
-ghost use Rattle.xan_io.specs.Outcome.{Stuck};
+ghost use Rattle.std.specs.Prelude.{◌≡◌, ℕ, ◌≤◌, ◌<◌, ◌^◌, List, codes, bytes_eq, length, IfOk, IfErr, None};
 ghost use Rattle.xan_io.specs.declared.arg.Arg.{Arg};
 ghost use Rattle.dtal_code.specs.Text.{IsStraight};
-ghost use Rattle.dtal_code.specs.Entry.{straight_fault, straight_outcome};
+ghost use Rattle.dtal_code.specs.Entry.{straight_fault};
+ghost use Rattle.dtal_code.specs.Touched.{IsSafeRun};
 ghost use Rattle.dtal_machine.specs.Typing.{first_types, types_after, reads_typed, IsAccepted};
 ghost use Rattle.dtal_machine.specs.Refusal.{IsRefused, first_untyped, refusal, Verdict};
 
@@ -58,7 +58,7 @@ pub fn verify(alloc: Global, program: Straight) -> Result<Verified, VerifyError>
     ensures refused { (at : Where) (rule : Rule) → result ≡ Err (VerifyError.Refused at rule) → IsRefused program at rule }
     ensures accepted { IfOk result (λ verified. (verified ≡ program) × IsAccepted program) }
     ensures safe { IfOk result (λ verified. (args : List Arg) (heap depth steps : ℕ) → straight_fault program args ≡ None
-        → (straight_outcome program args heap depth steps).how ≢ Stuck) }
+        → IsSafeRun program args heap depth steps) }
 {
     match check(alloc, &program) {
         Ok(()) => Ok(Verified { program }),

@@ -1,9 +1,11 @@
-ghost use Rattle.std.specs.Prelude.{◌≡◌, ◌≢◌, ◌↔◌, ℕ, suc, ℤ, List, [], ◌∷◌, ◌++◌, Option, None, Some, Result, Ok, Err};
+ghost use Rattle.std.specs.Prelude.{◌≡◌, ◌<◌, ◌≤◌, ◌↔◌, ℕ, suc, length, ℤ, List, [], ◌∷◌, ◌++◌, Option, None, Some, Result, Ok, Err};
 ghost use Rattle.xan_io.specs.declared.arg.Arg.{Arg};
-ghost use Rattle.xan_io.specs.Outcome.{Stuck, Running, Returned, NoStore, Overflow, Outcome};
+ghost use Rattle.xan_io.specs.Outcome.{Running, Returned, NoStore, Overflow, Outcome};
 ghost use Rattle.dtal_code.specs.declared.straight.Straight.{Straight};
-ghost use Rattle.dtal_code.specs.Machine.{State, On, Off, step};
+ghost use Rattle.dtal_code.specs.Machine.{State, On, step};
 ghost use Rattle.dtal_code.specs.Entry.{straight_fault, straight_outcome, first_state};
+ghost use Rattle.dtal_code.specs.Touched.{IsSafe, IsSafeRun};
+ghost use Rattle.dtal_machine.specs.Ending.{HasEnded};
 ghost use Rattle.dtal_machine.specs.Typing.{IsAccepted};
 ghost use Rattle.dtal_machine.specs.Refusal.{IsRefused, refusal};
 ghost use Rattle.dtal_machine.specs.Steps.{Loaded, IsLive, event, stepped, moved, run_on};
@@ -57,10 +59,11 @@ pub fn entry_fits()
         → Fits program accepted.before (first_state args heap depth) }
 {}
 
-/// From a state that a run of an accepted program passes, a step is not stuck.
+/// A state that a run of an accepted program passes is safe: it stands at an instruction, its step is not stuck, and each address that
+/// this touches is allocated after it.
 pub fn progress()
     ensures { (program : Straight) (accepted : IsAccepted program) (state : State) → Fits program accepted.before state
-        → step program.code state ≢ Off Stuck }
+        → IsSafe program.code state }
 {}
 
 /// A step from such a state that does not end the run leads to such a state.
@@ -69,8 +72,15 @@ pub fn preservation()
         → step program.code state ≡ On printed next → Fits program accepted.before next }
 {}
 
-/// No run of an accepted program is ever stuck.
-pub fn accepted_programs_are_never_stuck()
+/// No run of an accepted program is ever stuck, and each state that it comes to is safe.
+pub fn accepted_programs_are_safe()
     ensures { (program : Straight) (args : List Arg) (heap depth steps : ℕ) → IsAccepted program → straight_fault program args ≡ None
-        → (straight_outcome program args heap depth steps).how ≢ Stuck }
+        → IsSafeRun program args heap depth steps }
+{}
+
+/// A run of an accepted program ends by an instruction, after at most as many steps as there are instructions, unless there may be no
+/// activation.
+pub fn accepted_programs_end()
+    ensures { (program : Straight) (args : List Arg) (heap depth steps : ℕ) → IsAccepted program → straight_fault program args ≡ None
+        → 0 < depth → length program.code ≤ steps → HasEnded (straight_outcome program args heap depth steps).how }
 {}

@@ -18,8 +18,8 @@ mod tests;
 pub use acceptance::{Verified, verify};
 pub use event::Event;
 pub use laws::{
-    accepted_programs_are_never_stuck, entry_fits, preservation, progress, refusal_is_the_first,
-    steps_make_the_run, verdicts_exclude_each_other,
+    accepted_programs_are_safe, accepted_programs_end, entry_fits, preservation, progress,
+    refusal_is_the_first, steps_make_the_run, verdicts_exclude_each_other,
 };
 pub use loading::LoadError;
 pub use machine::Machine;

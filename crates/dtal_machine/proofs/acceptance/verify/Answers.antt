@@ -3,7 +3,7 @@ use Rattle.dtal_machine.specs.declared.refusal.VerifyError.{VerifyError}
 use Rattle.dtal_machine.specs.Refusal.{refusal, Verdict}
 use Rattle.dtal_machine.specs.declared.refusal.VerifyError.TheVariants.{Refused}
 use Rattle.dtal_machine.proofs.Typings.{none-accepted, refused-is}
-use Rattle.dtal_machine.proofs.Runs.{outcome_never_stuck}
+use Rattle.dtal_machine.proofs.Runs.{accepted-runs_safely}
 use Rattle.dtal_machine.proofs.acceptance.verify.Goals as goal
 
 pub invariant_of-result : goal.invariant_of-result
@@ -14,7 +14,7 @@ returns-in-Ok-clause-accepted c = (refl, none-accepted c.args.program c.requires
 
 pub returns-in-Ok-clause-safe : goal.returns-in-Ok-clause-safe
 returns-in-Ok-clause-safe c = λ args heap depth steps none.
-    outcome_never_stuck c.args.program args heap depth steps (none-accepted c.args.program c.requires c.in-Ok.ensures) none
+    accepted-runs_safely c.args.program args heap depth steps (none-accepted c.args.program c.requires c.in-Ok.ensures) none
 
 pub returns-in-Err-clause-refused : goal.returns-in-Err-clause-refused
 returns-in-Err-clause-refused c = λ at rule e.

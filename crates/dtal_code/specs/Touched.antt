@@ -1,0 +1,82 @@
+-- Which addresses of the store a step touches, which are allocated, and which runs are safe.
+use Rattle.std.specs.Prelude.{◌≡◌, ◌≢◌, ℕ, ◌+◌, ◌<◌, ◌≤◌, ℤ, pos, List, [], ◌∷◌, ◌++◌, length, All, Option, None, Some, slice_get}
+use Rattle.xan_io.specs.declared.arg.Arg.{Arg}
+use Rattle.xan_io.specs.Outcome.{Stuck}
+use Rattle.dtal_code.specs.declared.op.Op.{Op}
+use Rattle.dtal_code.specs.declared.op.Op.TheVariants.{Li, Mv, Add, Sub, Ret, Print}
+use Rattle.dtal_code.specs.declared.straight.Straight.{Straight}
+use Rattle.dtal_code.specs.Machine.{Activation, State, Next, On, Off, step}
+use Rattle.dtal_code.specs.Entry.{straight_outcome, straight_state}
+
+-- ---- allocated addresses
+
+-- a block of the store: a descriptor, then the number of its cells, then these
+pub record Block : Type 0 where
+  pub descriptor : ℤ
+  pub cells : List ℤ
+
+abbrev pub block_words : Block → List ℤ
+block_words block = block.descriptor ∷ pos (length block.cells) ∷ block.cells
+
+abbrev pub blocks_words : List Block → List ℤ
+blocks_words [] = []
+blocks_words (block ∷ blocks) = block_words block ++ blocks_words blocks
+
+-- The walk of headers from address 0 divides the used words into blocks, and the address lies in one of them.
+pub record IsAllocated (words : List ℤ) (address : ℤ) : Type 0 where
+  pub before : List Block
+  pub block : Block
+  pub behind : List Block
+  pub divided : words ≡ blocks_words (before ++ (block ∷ behind))
+  pub number : ℕ
+  pub is : address ≡ pos number
+  pub from : length (blocks_words before) ≤ number
+  pub within : number < length (blocks_words before) + length (block_words block)
+
+-- ---- touched addresses
+
+-- The addresses that the instruction reads or writes by plain arithmetic, without a test of an index. These instructions know nothing
+-- of the store.
+abbrev pub touches : Op → State → Activation → List ℤ
+touches (Li _ _) state top = []
+touches (Mv _ _) state top = []
+touches (Add _ _ _) state top = []
+touches (Sub _ _ _) state top = []
+touches (Ret _) state top = []
+touches (Print _) state top = []
+
+abbrev pub touched_at : Option Op → State → Activation → List ℤ
+touched_at None state top = []
+touched_at (Some op) state top = touches op state top
+
+abbrev pub touched_by : List Op → State → List Activation → List ℤ
+touched_by code state [] = []
+touched_by code state (top ∷ callers) = touched_at (slice_get code top.at) state top
+
+-- those of the next instruction of a state
+unfoldable pub touched : List Op → State → List ℤ
+touched code state = touched_by code state state.activations
+
+-- ---- safety
+
+-- the used words after a step; an end leaves them
+abbrev pub words_after : State → Next → List ℤ
+words_after state (On printed next) = next.words
+words_after state (Off how) = state.words
+
+-- A state in which a run goes on: it stands at an instruction that exists, its step is not stuck, and each address that this touches is
+-- allocated after it.
+pub record IsSafe (code : List Op) (state : State) : Type 0 where
+  pub top : Activation
+  pub callers : List Activation
+  pub uppermost : state.activations ≡ top ∷ callers
+  pub op : Op
+  pub exists : slice_get code top.at ≡ Some op
+  pub goes : step code state ≢ Off Stuck
+  pub allocated : All (IsAllocated (words_after state (step code state))) (touched code state)
+
+-- The program's run on these arguments, with so large a store and so many activations, is not stuck after so many steps, and the state
+-- that it has come to, if it goes on, is safe.
+pub record IsSafeRun (program : Straight) (args : List Arg) (heap depth steps : ℕ) : Type 0 where
+  pub not_stuck : (straight_outcome program args heap depth steps).how ≢ Stuck
+  pub safe : (state : State) → straight_state program args heap depth steps ≡ Some state → IsSafe program.code state
