@@ -2,6 +2,7 @@
 use Rattle.std.proofs.Common.{◌≡◌, ℤ, pos, ◌≤ℤ◌, ◌+ℤ◌, Bool, true, false, ◌&&◌, ◌||◌, ◌⊎◌, inl, inr, List, [], ◌∷◌, get_or, ◌==◌, refl, sym, ◌∙◌, ap, subst, int_le, arith}
 use Rattle.std.specs.Ordering.{int_eq}
 use Rattle.std.specs.Bool.{Decides}
+use Rattle.std.specs.Cmp.Lexicographic.{pointwise, pointwise_decides}
 use Rattle.std.specs.List.{Contains, list_any, All}
 use Rattle.std.proofs.lemmas.Int.{ints}
 use Rattle.std.proofs.lemmas.Bool.{and_parts}
@@ -13,7 +14,7 @@ use Rattle.xan_lin.specs.Linear.{Linear}
 use Rattle.xan_lin.specs.Value.{value_of, value_of_terms, Holds}
 use Rattle.xan_lin.specs.declared.term.Term.{Term}
 use Rattle.index_sorts.specs.Context.{IndexContext}
-use Rattle.index_sorts.specs.Known.{IsKnown, same_term, same_terms, same_form, no_terms, holds_always, knows}
+use Rattle.index_sorts.specs.Known.{IsKnown, same_term, same_form, no_terms, holds_always, knows}
 use Rattle.index_sorts.specs.Entails.{Entails}
 
 -- ---- equal terms and forms
@@ -34,22 +35,15 @@ Decides-same_term t u = (
   λ e. join (t.var == u.var) (int_eq t.coef u.coef) ((Decides-eqb t.var u.var).1 (ap (λ w. w.var) e)) ((Decides-int_eq t.coef u.coef).1 (ap (λ w. w.coef) e)),
 )
 
-pub Decides-same_terms : (ts us : List Term) → Decides (same_terms ts us) (ts ≡ us)
-Decides-same_terms [] [] = (λ e. refl, λ e. refl)
-Decides-same_terms [] (u ∷ us) = (λ e. cc, λ e. cc)
-Decides-same_terms (t ∷ ts) [] = (λ e. cc, λ e. cc)
-Decides-same_terms (t ∷ ts) (u ∷ us) = (
-  λ e. (let parts = both (same_term t u) (same_terms ts us) e in
-    ap (λ x. x ∷ ts) ((Decides-same_term t u).0 parts.0) ∙ ap (λ xs. u ∷ xs) ((Decides-same_terms ts us).0 parts.1)),
-  λ e. join (same_term t u) (same_terms ts us) ((Decides-same_term t u).1 cc) ((Decides-same_terms ts us).1 cc),
-)
+Decides-same_terms : (ts us : List Term) → Decides (pointwise same_term ts us) (ts ≡ us)
+Decides-same_terms ts us = pointwise_decides Decides-same_term ts us
 
 pub Decides-same_form : (e f : Linear) → Decides (same_form e f) (e ≡ f)
 Decides-same_form e f = (
-  λ h. (let parts = both (int_eq e.constant f.constant) (same_terms e.terms f.terms) h in
+  λ h. (let parts = both (int_eq e.constant f.constant) (pointwise same_term e.terms f.terms) h in
     ap (λ ts. let g : Linear = record { terms = ts; constant = e.constant } in g) ((Decides-same_terms e.terms f.terms).0 parts.1)
     ∙ ap (λ c. let g : Linear = record { terms = f.terms; constant = c } in g) ((Decides-int_eq e.constant f.constant).0 parts.0)),
-  λ h. join (int_eq e.constant f.constant) (same_terms e.terms f.terms) ((Decides-int_eq e.constant f.constant).1 (ap (λ g. g.constant) h)) ((Decides-same_terms e.terms f.terms).1 (ap (λ g. g.terms) h)),
+  λ h. join (int_eq e.constant f.constant) (pointwise same_term e.terms f.terms) ((Decides-int_eq e.constant f.constant).1 (ap (λ g. g.constant) h)) ((Decides-same_terms e.terms f.terms).1 (ap (λ g. g.terms) h)),
 )
 
 -- ---- known rows
@@ -93,6 +87,12 @@ Decides-knows context row = (
         (list_any_at (same_form row) context.rows p.0 row p.1 ((Decides-same_form row (get_or context.rows p.0 row)).1 (sym p.2)))
   ],
 )
+
+-- what the code's test answers
+pub answers_known : (context : IndexContext) (row : Linear) (answer : Bool) → answer ≡ (holds_always row || list_any (same_form row) context.rows)
+    → (answer ≡ knows context row) × Decides answer (IsKnown context row)
+unfolding knows
+answers_known context row answer e = (e, subst (λ b. Decides b (IsKnown context row)) (sym e) (Decides-knows context row))
 
 -- ---- what is known is entailed
 

@@ -2,6 +2,7 @@
 use Rattle.std.specs.Prelude.{◌≡◌, ℤ, pos, ◌≤ℤ◌, Bool, true, false, ◌&&◌, ◌||◌, ◌⊎◌, List, [], ◌∷◌, ◌++◌, ◌==◌, length, int_le, nat_le, Result, Ok, Err, if◌then◌else◌}
 use Rattle.std.specs.List.{Contains, list_any}
 use Rattle.std.specs.Ordering.{int_eq}
+use Rattle.std.specs.Cmp.Lexicographic.{pointwise}
 use Rattle.xan_lin.specs.Linear.{Linear}
 use Rattle.xan_lin.specs.declared.term.Term.{Term}
 use Rattle.index_sorts.specs.Context.{IndexContext}
@@ -17,15 +18,9 @@ IsKnown context row = ((row.terms ≡ []) × (pos 0 ≤ℤ row.constant)) ⊎ Co
 abbrev pub same_term : Term → Term → Bool
 same_term t u = (t.var == u.var) && int_eq t.coef u.coef
 
-abbrev pub same_terms : List Term → List Term → Bool
-same_terms [] [] = true
-same_terms [] (u ∷ us) = false
-same_terms (t ∷ ts) [] = false
-same_terms (t ∷ ts) (u ∷ us) = same_term t u && same_terms ts us
-
 -- two forms are the same where their constants and their terms are
 abbrev pub same_form : Linear → Linear → Bool
-same_form e f = int_eq e.constant f.constant && same_terms e.terms f.terms
+same_form e f = int_eq e.constant f.constant && pointwise same_term e.terms f.terms
 
 abbrev pub no_terms : List Term → Bool
 no_terms [] = true

@@ -3,7 +3,7 @@ ghost use Rattle.std.specs.Prelude.{◌≡◌, ◌≤◌, ◌⊎◌, ◌↔◌, 
 ghost use Rattle.index_sorts.specs.Context.{NamesBelow, new_context, fresh_from, with_variables};
 ghost use Rattle.index_sorts.specs.Known.{IsKnown, knows, with_row};
 
-use crate::compare::{holds_in_any_case, is_listed};
+use crate::compare::is_known;
 use crate::error::ContextError;
 use std::alloc::Global;
 use std::marker::Model;
@@ -69,7 +69,7 @@ impl Context {
         ensures test { result ≡ knows self.now row.now }
         ensures known { IsTrue result ↔ IsKnown self.now row.now }
     {
-        holds_in_any_case(row) || is_listed(row, self.rows.as_slice())
+        is_known(row, self.rows.as_slice())
     }
 
     /// Adds so many variables and answers the number of the first. `Variables` comes exactly where there would be more than 1,024, and
@@ -89,6 +89,7 @@ impl Context {
 
     /// Puts the row behind the others, unless it is known already. `Rows` comes exactly where it is not known and 512 rows stand, and
     /// `Variables` never. After a refusal nothing has changed.
+    #[tactic(auto, unfolding(crate::specs::Known::with_row))]
     pub fn add(&mut self, row: Form) -> Result<(), ContextError>
         requires { NamesBelow self.old.vars row }
         ensures added { OnOk result (with_row self.old row ≡ Ok self.new) }
