@@ -1,17 +1,16 @@
 -- The test of known rows says what it should, and such rows are entailed.
-use Rattle.std.proofs.Common.{◌≡◌, ℤ, pos, ◌≤ℤ◌, ◌+ℤ◌, Bool, true, false, ◌&&◌, ◌||◌, ◌⊎◌, inl, inr, List, [], ◌∷◌, get_or, ◌==◌, refl, sym, ◌∙◌, ap, subst, int_le, arith}
+use Rattle.std.proofs.Common.{◌≡◌, ℤ, pos, ◌≤ℤ◌, Bool, true, false, ◌&&◌, ◌||◌, ◌⊎◌, inl, inr, List, [], ◌∷◌, get_or, ◌==◌, refl, sym, ◌∙◌, ap, subst, int_le, arith}
 use Rattle.std.specs.Ordering.{int_eq}
 use Rattle.std.specs.Bool.{Decides}
 use Rattle.std.specs.Cmp.Lexicographic.{pointwise, pointwise_decides}
-use Rattle.std.specs.List.{Contains, list_any, All}
+use Rattle.std.specs.List.{list_any}
 use Rattle.std.proofs.lemmas.Int.{ints}
-use Rattle.std.proofs.lemmas.Bool.{and_parts}
-use Rattle.std.proofs.lemmas.Bool.Decides.{Decides-eqb, Decides-int_eq, same_from_decides}
+use Rattle.std.proofs.lemmas.Bool.Decides.{Decides-eqb, Decides-int_eq}
 use Rattle.std.proofs.lemmas.List.Elements.{All-contains}
 use Rattle.std.proofs.lemmas.List.Folds.{list_any_at}
 use Rattle.std.proofs.lemmas.Map.Views.{Contains-from_any}
 use Rattle.xan_lin.specs.Linear.{Linear}
-use Rattle.xan_lin.specs.Value.{value_of, value_of_terms, Holds}
+use Rattle.xan_lin.specs.Value.{value_of_terms, Holds}
 use Rattle.xan_lin.specs.declared.term.Term.{Term}
 use Rattle.index_sorts.specs.Context.{IndexContext}
 use Rattle.index_sorts.specs.Known.{IsKnown, same_term, same_form, no_terms, holds_always, knows}
@@ -30,8 +29,8 @@ join false b e f = e
 Decides-same_term : (t u : Term) → Decides (same_term t u) (t ≡ u)
 Decides-same_term t u = (
   λ e. (let parts = both (t.var == u.var) (int_eq t.coef u.coef) e in
-    ap (λ v. let w : Term = record { var = v; coef = t.coef } in w) ((Decides-eqb t.var u.var).0 parts.0)
-    ∙ ap (λ c. let w : Term = record { var = u.var; coef = c } in w) ((Decides-int_eq t.coef u.coef).0 parts.1)),
+      ap (λ v. let w : Term = record { var = v; coef = t.coef } in w) ((Decides-eqb t.var u.var).0 parts.0)
+      ∙ ap (λ c. let w : Term = record { var = u.var; coef = c } in w) ((Decides-int_eq t.coef u.coef).0 parts.1)),
   λ e. join (t.var == u.var) (int_eq t.coef u.coef) ((Decides-eqb t.var u.var).1 (ap (λ w. w.var) e)) ((Decides-int_eq t.coef u.coef).1 (ap (λ w. w.coef) e)),
 )
 
@@ -41,8 +40,8 @@ Decides-same_terms ts us = pointwise_decides Decides-same_term ts us
 pub Decides-same_form : (e f : Linear) → Decides (same_form e f) (e ≡ f)
 Decides-same_form e f = (
   λ h. (let parts = both (int_eq e.constant f.constant) (pointwise same_term e.terms f.terms) h in
-    ap (λ ts. let g : Linear = record { terms = ts; constant = e.constant } in g) ((Decides-same_terms e.terms f.terms).0 parts.1)
-    ∙ ap (λ c. let g : Linear = record { terms = f.terms; constant = c } in g) ((Decides-int_eq e.constant f.constant).0 parts.0)),
+      ap (λ ts. let g : Linear = record { terms = ts; constant = e.constant } in g) ((Decides-same_terms e.terms f.terms).0 parts.1)
+      ∙ ap (λ c. let g : Linear = record { terms = f.terms; constant = c } in g) ((Decides-int_eq e.constant f.constant).0 parts.0)),
   λ h. join (int_eq e.constant f.constant) (pointwise same_term e.terms f.terms) ((Decides-int_eq e.constant f.constant).1 (ap (λ g. g.constant) h)) ((Decides-same_terms e.terms f.terms).1 (ap (λ g. g.terms) h)),
 )
 

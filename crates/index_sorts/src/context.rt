@@ -95,6 +95,7 @@ impl Context {
         ensures added { OnOk result (with_row self.old row ≡ Ok self.new) }
         ensures refused { IfErr result (λ error. (error ≡ ContextError.Memory) ⊎ (with_row self.old row ≡ Err error)) }
         ensures unchanged { OnErr result (self.new ≡ self.old) }
+        ensures variables { self.new.vars ≡ self.old.vars }
     {
         if self.knows(&row) {
             return Ok(());

@@ -1,12 +1,16 @@
 // The bounds from both sides, and each call once.
+ghost use Rattle.std.specs.Prelude.{◌≡◌, ◌<◌};
+
 use crate::{Context, ContextError};
 use std::test::Fail;
-use xan_lin::{Form, Term};
+use xan_lin::Form;
 
-// The row that says that the variable is at least `least`.
-fn at_least(var: u32, least: i64) -> Option<Form> {
-    let terms = [Term { var, coef: 1 }];
-    Form::from_terms(terms.as_slice(), least.checked_neg()?).ok()
+// Adds the row that says that the variable is at least 0.
+fn add_variable(context: &mut Context, var: u32) -> Result<(), ContextError>
+    requires { var < context.old.vars }
+    ensures { context.new.vars ≡ context.old.vars }
+{
+    context.add(Form::variable(var))
 }
 
 #[test]
@@ -24,13 +28,12 @@ fn variables_stop_at_the_bound(rt: HostRuntime) -> Result<(), Fail> {
 #[test]
 fn known_rows_are_not_listed_again(rt: HostRuntime) -> Result<(), Fail> {
     let mut context = Context::new(rt.alloc(), 2)?;
-    let row = at_least(1, 3).ok_or("row")?;
-    assert!(rt; !context.knows(&row));
-    context.add(row.copy())?;
-    context.add(row.copy())?;
+    assert!(rt; !context.knows(&Form::variable(1)));
+    add_variable(&mut context, 1)?;
+    add_variable(&mut context, 1)?;
     assert_eq!(rt; context.rows().len(), 1);
     let copied = context.copy()?;
-    assert!(rt; copied.knows(&row));
+    assert!(rt; copied.knows(&Form::variable(1)));
     let constants = [0, 7, -1].map(|constant| match Form::from_terms(&[], constant) {
         Ok(form) => context.knows(&form),
         Err(_) => false,
@@ -41,14 +44,12 @@ fn known_rows_are_not_listed_again(rt: HostRuntime) -> Result<(), Fail> {
 
 #[test]
 fn rows_stop_at_the_bound(rt: HostRuntime) -> Result<(), Fail> {
-    let mut context = Context::new(rt.alloc(), 1)?;
-    for least in 0..512 {
-        context.add(at_least(0, least).ok_or("row")?)?;
+    let mut context = Context::new(rt.alloc(), 513)?;
+    for var in 0..512 {
+        add_variable(&mut context, var)?;
     }
-    let known = at_least(0, 511).ok_or("row")?;
-    let other = at_least(0, 512).ok_or("row")?;
     assert_eq!(rt; context.rows().len(), 512);
-    assert!(rt; matches!(context.add(other), Err(ContextError::Rows)));
-    context.add(known)?;
+    assert!(rt; matches!(add_variable(&mut context, 512), Err(ContextError::Rows)));
+    add_variable(&mut context, 511)?;
     Ok(())
 }

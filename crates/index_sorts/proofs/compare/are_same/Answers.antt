@@ -1,4 +1,4 @@
-use Rattle.std.proofs.Common.{◌∙◌, rules}
+use Rattle.std.proofs.Common.{rules}
 use Rattle.index_sorts.proofs.compare.are_same.Goals as goal
 
 pub returns-then-constant_part : goal.returns-then-constant_part
