@@ -6,3 +6,4 @@ pub mod Values
 pub mod Scaling
 pub mod Gathering
 pub mod Collecting
+pub mod Evaluating

@@ -2,3 +2,4 @@ pub mod Terms
 pub mod Linear
 pub mod Value
 pub mod Text
+pub mod Wide

@@ -1,16 +1,18 @@
 // The form and its calls.
-ghost use Rattle.std.specs.Prelude.{◌≡◌, pos, [], ◌∷◌, length, ◌≤◌, ◌++◌, OnOk, OnErr};
+ghost use Rattle.std.specs.Prelude.{◌≡◌, ◌↔◌, pos, [], ◌∷◌, length, ◌≤◌, ◌++◌, OnOk, OnErr, IsTrue};
 ghost use Rattle.xan_lin.specs.Terms.{IsRising};
 ghost use Rattle.xan_lin.specs.Text.{form_text};
-ghost use Rattle.xan_lin.specs.Linear.{sized, sum_of, difference_of, form_of, product_of, negated_row_of};
+ghost use Rattle.xan_lin.specs.Linear.{sized, sum_of, difference_of, form_of, product_of, negated_row_of, NamesBelow};
+ghost use Rattle.xan_lin.specs.Value.{value_of, Holds};
 
+use crate::bound::all_are_small;
+use crate::evaluate::value_of_all;
 use crate::gather::gathered;
-use crate::merge::{
-    all_are_small, below_negated, held, merged, negated, number_difference, number_sum,
-};
+use crate::merge::{below_negated, held, merged, negated, number_difference, number_sum};
 use crate::scale::{product, scaled};
 use crate::term::{MOST_TERMS, Memory, Term, TooLarge};
 use crate::text::{put_number, put_terms};
+use crate::wide::{is_negative, is_zero, less_word};
 use arrayvec::ArrayVec;
 use std::marker::Model;
 
@@ -133,6 +135,24 @@ impl Form {
         let terms = negated(self.terms.as_slice());
         let constant = below_negated(&self.constant);
         sized_form(terms.as_slice(), &constant)
+    }
+
+    /// Whether the row holds, which it does where its exact value is at least 0. The number of a variable is its place in `values`.
+    pub fn eval_row(&self, values: &[i64]) -> bool
+        requires { NamesBelow (length values.now) self.now }
+        ensures { IsTrue result ↔ Holds values.now self.now }
+    {
+        let value = value_of_all(self.terms.as_slice(), &self.constant, values);
+        !is_negative(&value)
+    }
+
+    /// Whether the exact value is the word. The number of a variable is its place in `values`.
+    pub fn eval_is(&self, values: &[i64], word: i64) -> bool
+        requires { NamesBelow (length values.now) self.now }
+        ensures { IsTrue result ↔ (value_of values.now self.now ≡ word) }
+    {
+        let value = value_of_all(self.terms.as_slice(), &self.constant, values);
+        is_zero(&less_word(&value, &word))
     }
 }
 

@@ -4,6 +4,8 @@
 //! that form is too large. The crate stands on `arrayvec` and `itoa`, and no call but `write_form` takes memory.
 #![tactic(auto)]
 
+mod bound;
+mod evaluate;
 mod form;
 mod gather;
 mod laws;
@@ -13,6 +15,7 @@ mod term;
 #[cfg(test)]
 mod tests;
 mod text;
+mod wide;
 
 pub use crate::form::Form;
 pub use crate::laws::{
