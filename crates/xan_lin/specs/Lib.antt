@@ -3,3 +3,5 @@ pub mod Linear
 pub mod Value
 pub mod Text
 pub mod Wide
+pub mod Subst
+pub mod Products

@@ -9,7 +9,10 @@ mod evaluate;
 mod form;
 mod gather;
 mod laws;
+mod lookup;
 mod merge;
+mod product_sum;
+mod replace;
 mod scale;
 mod term;
 #[cfg(test)]

@@ -7,6 +7,7 @@ ghost use Rattle.xan_lin.specs.Linear.{is_within, all_within};
 use crate::bound::is_wide_small;
 use crate::merge::push_multiple;
 use crate::term::Term;
+use crate::wide::exact_product;
 use arrayvec::ArrayVec;
 
 // The product, where it is within the bound.
@@ -15,7 +16,7 @@ pub(crate) fn product(left: &i64, right: &i64) -> Option<i64>
     ensures { MatchOption result (is_within (left.now *ℤ right.now) ≡ false)
         (λ number. (number ≡ left.now *ℤ right.now) × (is_within number ≡ true)) }
 {
-    let exact = i128::from(*left) * i128::from(*right);
+    let exact = exact_product(left, right);
     if is_wide_small(&exact) {
         Some(exact as i64)
     } else {

@@ -28,7 +28,7 @@ pub(crate) fn widened(word: &i64) -> Wide
 }
 
 // The exact product.
-fn product(left: &i64, right: &i64) -> i128
+pub(crate) fn exact_product(left: &i64, right: &i64) -> i128
     ensures exact { result ≡ left.now *ℤ right.now }
     ensures small { unsigned_abs result < 2 ^ 127 }
 {
@@ -68,7 +68,7 @@ pub(crate) fn plus_product(number: &Wide, left: &i64, right: &i64) -> Wide
     ensures exact { whole result ≡ whole number.now +ℤ (left.now *ℤ right.now) }
     ensures grows { GrowsByOne number.now result }
 {
-    sum(number, &halves(&product(left, right)))
+    sum(number, &halves(&exact_product(left, right)))
 }
 
 // The number less a word.
