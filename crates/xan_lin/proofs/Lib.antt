@@ -10,3 +10,4 @@ pub mod Evaluating
 pub mod Looking
 pub mod Replacing
 pub mod Products
+pub mod Substituting

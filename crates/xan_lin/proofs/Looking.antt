@@ -69,9 +69,9 @@ apart low var at k vs d r l point other =
     elim (order k at) [
       | Lt h ↦ (let before : here.0 < var = is_less here.0 var (point.0 k d (omega arith) h) in λ e. absurd (omega arith))
       | Gt h ↦ (let first = get_or vs at d in
-        let from : var ≤ first.0 = is_not_less first.0 var (point.1 at d (omega arith) (omega arith)) in
-        let upto : first.0 ≤ here.0 = rises_upto low at k vs d r (omega arith) l in
-        λ e. other (omega arith) (omega arith))
+          let from : var ≤ first.0 = is_not_less first.0 var (point.1 at d (omega arith) (omega arith)) in
+          let upto : first.0 ≤ here.0 = rises_upto low at k vs d r (omega arith) l in
+          λ e. other (omega arith) (omega arith))
       | Eq h ↦ (λ e. other (omega arith) (ap (λ n. (get_or vs n d).0) (sym h) ∙ e))
     ]
 

@@ -41,12 +41,12 @@ constant-unlisted values below var e = constant-own (nat_lt var below) var ∙ a
 
 -- ---- the terms
 
-replaced-cons : (values : List (ℕ × Linear)) (below : ℕ) (t : Term) (ts : List Term)
+pub replaced-cons : (values : List (ℕ × Linear)) (below : ℕ) (t : Term) (ts : List Term)
     → replaced_terms values below (t ∷ ts) ≡ multiples t.coef (replacement values below t.var).terms ++ replaced_terms values below ts
 unfolding replaced_terms
 replaced-cons values below t ts = refl
 
-replaced-none : (values : List (ℕ × Linear)) (below : ℕ) → replaced_terms values below [] ≡ []
+pub replaced-none : (values : List (ℕ × Linear)) (below : ℕ) → replaced_terms values below [] ≡ []
 unfolding replaced_terms
 replaced-none values below = refl
 
@@ -68,12 +68,12 @@ all_replaced made whole ts values below at h same =
 
 -- ---- the constants
 
-constant-cons : (values : List (ℕ × Linear)) (below : ℕ) (t : Term) (ts : List Term)
+pub constant-cons : (values : List (ℕ × Linear)) (below : ℕ) (t : Term) (ts : List Term)
     → replaced_constant values below (t ∷ ts) ≡ (t.coef *ℤ (replacement values below t.var).constant) +ℤ replaced_constant values below ts
 unfolding replaced_constant
 constant-cons values below t ts = refl
 
-constant-none : (values : List (ℕ × Linear)) (below : ℕ) → replaced_constant values below [] ≡ pos 0
+pub constant-none : (values : List (ℕ × Linear)) (below : ℕ) → replaced_constant values below [] ≡ pos 0
 unfolding replaced_constant
 constant-none values below = refl
 

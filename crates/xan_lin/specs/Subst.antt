@@ -1,6 +1,8 @@
 -- What a form becomes when all its variables are replaced at once.
-use Rattle.std.specs.Prelude.{ℕ, suc, ◌≤◌, ℤ, pos, ◌+ℤ◌, ◌*ℤ◌, List, [], ◌∷◌, ◌++◌, map, nat_lt, ◌==◌, Option, Some, None, Result, if◌then◌else◌}
+use Rattle.std.specs.Prelude.{◌≡◌, ℕ, zero, suc, ◌≤◌, ℤ, pos, ◌+ℤ◌, ◌*ℤ◌, List, [], ◌∷◌, ◌++◌, map, nat_lt, ◌==◌, Option, Some, None, Result, if◌then◌else◌}
+use Rattle.std.specs.List.{All}
 use Rattle.xan_lin.specs.Linear.{Linear, form_of}
+use Rattle.xan_lin.specs.Value.{value_at, value_of}
 use Rattle.xan_lin.specs.declared.term.Term.{Term}
 use Rattle.xan_lin.specs.declared.term.TooLarge.{TooLarge}
 
@@ -50,3 +52,18 @@ replaced_constant values below (t ∷ ts) = (t.coef *ℤ (replacement values bel
 -- the exact result
 abbrev pub subst_of : List (ℕ × Linear) → ℕ → Linear → Result Linear TooLarge
 subst_of values below form = form_of (replaced_terms values below form.terms) (replaced_constant values below form.terms +ℤ form.constant)
+
+-- ---- what that is worth
+
+-- under an assignment each variable of the form is given the value of what stands for it
+abbrev pub Gives : List ℤ → List (ℕ × Linear) → ℕ → Linear → List ℤ → Type 0
+Gives assignment values below form given = All (λ t. value_at given t.var ≡ value_of assignment (replacement values below t.var)) form.terms
+
+-- the values of what stands for so many variables from `first` on
+unfoldable pub values_from : List ℤ → List (ℕ × Linear) → ℕ → ℕ → ℕ → List ℤ
+values_from assignment values below first zero = []
+values_from assignment values below first (suc count) = value_of assignment (replacement values below first) ∷ values_from assignment values below (suc first) count
+
+-- the assignment that an assignment gives to the first so many variables
+abbrev pub given_values : List ℤ → List (ℕ × Linear) → ℕ → ℕ → List ℤ
+given_values assignment values below vars = values_from assignment values below 0 vars

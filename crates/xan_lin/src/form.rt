@@ -4,15 +4,18 @@ ghost use Rattle.xan_lin.specs.Terms.{IsRising};
 ghost use Rattle.xan_lin.specs.Text.{form_text};
 ghost use Rattle.xan_lin.specs.Linear.{sized, sum_of, difference_of, form_of, product_of, negated_row_of, NamesBelow};
 ghost use Rattle.xan_lin.specs.Value.{value_of, Holds};
+ghost use Rattle.xan_lin.specs.Subst.{VariablesRise, subst_of};
 
 use crate::bound::all_are_small;
 use crate::evaluate::value_of_all;
 use crate::gather::gathered;
 use crate::merge::{below_negated, held, merged, negated, number_difference, number_sum};
+use crate::product_sum::gathered_products;
+use crate::replace::{constant_after, replaced};
 use crate::scale::{product, scaled};
 use crate::term::{MOST_TERMS, Memory, Term, TooLarge};
 use crate::text::{put_number, put_terms};
-use crate::wide::{is_negative, is_zero, less_word};
+use crate::wide::{cut_wide, is_negative, is_zero, less_word};
 use arrayvec::ArrayVec;
 use std::marker::Model;
 
@@ -135,6 +138,19 @@ impl Form {
         let terms = negated(self.terms.as_slice());
         let constant = below_negated(&self.constant);
         sized_form(terms.as_slice(), &constant)
+    }
+
+    /// The form in which all listed variables are replaced at once, each by the form that stands beside it. A variable that is not
+    /// listed stays where it is less than `below`, and becomes 0 elsewhere. The listed variables rise. `Terms` and `Magnitude` come as
+    /// at `add`.
+    pub fn subst(&self, values: &[(u32, Form)], below: u32) -> Result<Form, TooLarge>
+        requires { VariablesRise 0 values.now }
+        ensures { result ≡ subst_of values.now below self.now }
+    {
+        let products = replaced(self.terms.as_slice(), values, below);
+        let terms = gathered_products(products.as_slice());
+        let constant = constant_after(self.terms.as_slice(), &self.constant, values, below);
+        sized_form(terms.as_slice(), &cut_wide(&constant))
     }
 
     /// Whether the row holds, which it does where its exact value is at least 0. The number of a variable is its place in `values`.

@@ -23,6 +23,6 @@ mod wide;
 pub use crate::form::Form;
 pub use crate::laws::{
     difference_subtracts_the_values, negated_row_turns_the_value, product_multiplies_the_value,
-    sum_adds_the_values, terms_add_their_values,
+    subst_takes_given_values, subst_takes_the_values, sum_adds_the_values, terms_add_their_values,
 };
 pub use crate::term::{BOUND, LimitKind, Memory, Term, TooLarge};

@@ -35,12 +35,7 @@ fn push_products(made: &mut ArrayVec<Product, 256>, by: &i64, terms: &[Term])
 }
 
 // Puts what stands for a term behind the others.
-fn push_replaced(
-    made: &mut ArrayVec<Product, 256>,
-    term: &Term,
-    values: &[(u32, Form)],
-    below: u32,
-)
+fn push_replaced(made: &mut ArrayVec<Product, 256>, term: &Term, values: &[(u32, Form)], below: u32)
     requires room { array_vec_len made.old + 16 ≤ 256 }
     requires rising { VariablesRise 0 values.now }
     ensures terms { product_terms made.new.items ≡ product_terms made.old.items ++ multiples term.now.coef (replacement values.now below term.now.var).terms }
@@ -49,16 +44,19 @@ fn push_replaced(
     if let Some(form) = form_of_variable(values, term.var) {
         push_products(made, &term.coef, form.terms());
     } else if term.var < below {
-        push_products(made, &term.coef, &[Term { var: term.var, coef: 1 }]);
+        push_products(
+            made,
+            &term.coef,
+            &[Term {
+                var: term.var,
+                coef: 1,
+            }],
+        );
     }
 }
 
 // What stands for the terms.
-pub(crate) fn replaced(
-    terms: &[Term],
-    values: &[(u32, Form)],
-    below: u32,
-) -> ArrayVec<Product, 256>
+pub(crate) fn replaced(terms: &[Term], values: &[(u32, Form)], below: u32) -> ArrayVec<Product, 256>
     requires few { length terms.now ≤ 16 }
     requires rising { VariablesRise 0 values.now }
     ensures { product_terms result.items ≡ replaced_terms values.now below terms.now }

@@ -7,5 +7,5 @@ use Rattle.xan_lin.proofs.replace.replaced.Given as goal
 abbrev pub invariant-loop-term : goal.invariant-loop-term
 invariant-loop-term l = record {
   same : product_terms l.made.items ++ replaced_terms l.values l.below (drop l.term-index l.terms) ≡ replaced_terms l.values l.below l.terms;
-  len : array_vec_len l.made ≤ l.term-index * 16
+  len : array_vec_len l.made ≤ l.term-index * 16;
 }
