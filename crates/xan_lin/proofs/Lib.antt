@@ -1,4 +1,5 @@
 pub mod Ring
+pub mod Tests
 pub mod Sums
 pub mod Sizes
 pub mod Merging

@@ -4,6 +4,7 @@ use Rattle.std.specs.List.Sorted.{IsPartitionedBy, IsPartitionPoint}
 use Rattle.std.proofs.lemmas.Bool.Decides.{nat_tests}
 use Rattle.xan_lin.specs.Linear.{Linear}
 use Rattle.xan_lin.specs.Subst.{VariablesRise, listed}
+use Rattle.xan_lin.proofs.Tests.{less, equal, unequal, is_less, is_not_less}
 use Rattle.xan_lin.proofs.Sums.{Lt, Gt, Eq, order}
 
 -- what the search tests
@@ -21,21 +22,6 @@ rises_upto low zero zero (v ∷ vs) d r le h = omega arith
 rises_upto low (suc i) zero (v ∷ vs) d r le h = absurd (omega arith)
 rises_upto low zero (suc j) (v ∷ vs) d r le h = (let later : suc v.0 ≤ (get_or vs j d).0 = at_least (suc v.0) j vs d r.1 (omega arith) in omega arith)
 rises_upto low (suc i) (suc j) (v ∷ vs) d r le h = rises_upto (suc v.0) i j vs d r.1 (omega arith) (omega arith)
-
-is_less : (m n : ℕ) → nat_lt m n ≡ true → m < n
-is_less m n h = grind (arith, nat_tests)
-
-less : (m n : ℕ) → m < n → nat_lt m n ≡ true
-less m n h = grind (arith, nat_tests)
-
-is_not_less : (m n : ℕ) → nat_lt m n ≡ false → n ≤ m
-is_not_less m n h = grind (arith, nat_tests)
-
-equal : (m n : ℕ) → m ≡ n → (m == n) ≡ true
-equal m n h = grind (arith, nat_tests)
-
-unequal : (m n : ℕ) → m ≢ n → (m == n) ≡ false
-unequal m n h = grind (arith, nat_tests)
 
 pub rises_partitioned : (low var : ℕ) (vs : List (ℕ × Linear)) → VariablesRise low vs → IsPartitionedBy (is_before var) vs
 rises_partitioned low var vs r i j d le h t =

@@ -3,9 +3,10 @@ use Rattle.std.proofs.Common.{◌≡◌, ℕ, ◌+◌, ◌<◌, ◌≤◌, ℤ, 
 use Rattle.std.proofs.lemmas.List.{append_assoc, append-nil, drop_more, drop_all}
 use Rattle.std.proofs.lemmas.Bool.Decides.{nat_tests}
 use Rattle.xan_lin.specs.Terms.{no_term}
-use Rattle.xan_lin.specs.Linear.{Linear}
-use Rattle.xan_lin.specs.Subst.{listed, listed_or_own, variable_form, zero_form, replacement, multiples, replaced_terms, replaced_constant}
+use Rattle.xan_lin.specs.Linear.{Linear, variable_form}
+use Rattle.xan_lin.specs.Subst.{listed, listed_or_own, zero_form, replacement, multiples, replaced_terms, replaced_constant}
 use Rattle.xan_lin.specs.declared.term.Term.{Term}
+use Rattle.xan_lin.proofs.Tests.{less, not_less}
 use Rattle.xan_lin.proofs.Ring.{add_assoc_ℤ, add_none}
 
 -- ---- what stands for one variable
@@ -13,12 +14,6 @@ use Rattle.xan_lin.proofs.Ring.{add_assoc_ℤ, add_none}
 pub replacement-listed : (values : List (ℕ × Linear)) (below var : ℕ) (form : Linear) → Some form ≡ listed var values → form ≡ replacement values below var
 unfolding replacement
 replacement-listed values below var form e = ap (λ o. listed_or_own o below var) e
-
-less : (m n : ℕ) → m < n → nat_lt m n ≡ true
-less m n h = grind (arith, nat_tests)
-
-not_less : (m n : ℕ) → n ≤ m → nat_lt m n ≡ false
-not_less m n h = grind (arith, nat_tests)
 
 pub replacement-kept : (values : List (ℕ × Linear)) (below var : ℕ) → None ≡ listed var values → var < below → variable_form var ≡ replacement values below var
 unfolding replacement

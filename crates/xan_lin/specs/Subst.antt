@@ -1,7 +1,7 @@
 -- What a form becomes when all its variables are replaced at once.
 use Rattle.std.specs.Prelude.{◌≡◌, ℕ, zero, suc, ◌≤◌, ℤ, pos, ◌+ℤ◌, ◌*ℤ◌, List, [], ◌∷◌, ◌++◌, map, nat_lt, ◌==◌, Option, Some, None, Result, if◌then◌else◌}
 use Rattle.std.specs.List.{All}
-use Rattle.xan_lin.specs.Linear.{Linear, form_of}
+use Rattle.xan_lin.specs.Linear.{Linear, variable_form, form_of}
 use Rattle.xan_lin.specs.Value.{value_at, value_of}
 use Rattle.xan_lin.specs.declared.term.Term.{Term}
 use Rattle.xan_lin.specs.declared.term.TooLarge.{TooLarge}
@@ -15,10 +15,6 @@ VariablesRise low (v ∷ vs) = (low ≤ v.0) × VariablesRise (suc v.0) vs
 abbrev pub listed : ℕ → List (ℕ × Linear) → Option Linear
 listed var [] = None
 listed var (v ∷ vs) = if v.0 == var then Some v.1 else listed var vs
-
--- the form that is the variable
-abbrev pub variable_form : ℕ → Linear
-variable_form var = record { terms = record { var = var; coef = pos 1 } ∷ []; constant = pos 0 }
 
 abbrev pub zero_form : Linear
 zero_form = record { terms = []; constant = pos 0 }

@@ -1,8 +1,8 @@
 // The form and its calls.
-ghost use Rattle.std.specs.Prelude.{◌≡◌, ◌↔◌, pos, [], ◌∷◌, length, ◌≤◌, ◌++◌, OnOk, OnErr, IsTrue};
+ghost use Rattle.std.specs.Prelude.{◌≡◌, ◌↔◌, length, ◌≤◌, ◌++◌, OnOk, OnErr, IsTrue};
 ghost use Rattle.xan_lin.specs.Terms.{IsRising};
 ghost use Rattle.xan_lin.specs.Text.{form_text};
-ghost use Rattle.xan_lin.specs.Linear.{sized, sum_of, difference_of, form_of, product_of, negated_row_of, NamesBelow};
+ghost use Rattle.xan_lin.specs.Linear.{sized, sum_of, difference_of, form_of, product_of, negated_row_of, variable_form, NamesBelow};
 ghost use Rattle.xan_lin.specs.Value.{value_of, Holds};
 ghost use Rattle.xan_lin.specs.Subst.{VariablesRise, subst_of};
 
@@ -49,7 +49,7 @@ impl Form {
 
     /// The form that is the variable.
     pub fn variable(v: u32) -> Form
-        ensures { result ≡ record { terms = record { var = v; coef = pos 1 } ∷ []; constant = pos 0 } }
+        ensures { result ≡ variable_form v }
     {
         let mut terms = ArrayVec::new();
         terms.push(Term { var: v, coef: 1 });
