@@ -1,6 +1,7 @@
 -- A context: how many index variables there are, and the rows that are taken to hold.
-use Rattle.std.specs.Prelude.{ℕ, ◌+◌, ◌<◌, ◌≤◌, List, [], length, nat_lt, Result, Ok, Err, if◌then◌else◌}
+use Rattle.std.specs.Prelude.{ℕ, ◌+◌, ◌≤◌, List, [], length, nat_lt, Result, Ok, Err, if◌then◌else◌}
 use Rattle.std.specs.List.{All}
+pub use Rattle.xan_lin.specs.Linear.{NamesBelow}
 use Rattle.xan_lin.specs.Linear.{Linear}
 use Rattle.index_sorts.specs.declared.error.ContextError.{ContextError}
 use Rattle.index_sorts.specs.declared.error.ContextError.TheVariants.{Variables}
@@ -9,10 +10,6 @@ use Rattle.index_sorts.specs.declared.error.ContextError.TheVariants.{Variables}
 pub record IndexContext : Type 0 where
   pub vars : ℕ
   pub rows : List Linear
-
--- the form names only variables below `vars`
-abbrev pub NamesBelow : ℕ → Linear → Type 0
-NamesBelow vars form = All (λ t. t.var < vars) form.terms
 
 -- what holds of every context
 pub record IsContext (context : IndexContext) : Type 0 where

@@ -1,5 +1,5 @@
 pub mod Ring
-pub mod Tests
+pub mod Booleans
 pub mod Sums
 pub mod Sizes
 pub mod Merging

@@ -1,10 +1,9 @@
 -- The search for a variable among rising ones.
-use Rattle.std.proofs.Common.{◌≡◌, ◌≢◌, ℕ, zero, suc, ◌<◌, ◌≤◌, List, [], ◌∷◌, length, get_or, Bool, true, false, nat_lt, ◌==◌, cond, Option, Some, None, refl, sym, ◌∙◌, ap, arith}
+use Rattle.std.proofs.Common.{◌≡◌, ◌≢◌, ℕ, zero, suc, ◌<◌, ◌≤◌, List, [], ◌∷◌, length, get_or, Bool, true, false, nat_lt, cond, Option, Some, None, refl, sym, ◌∙◌, ap, arith}
 use Rattle.std.specs.List.Sorted.{IsPartitionedBy, IsPartitionPoint}
-use Rattle.std.proofs.lemmas.Bool.Decides.{nat_tests}
 use Rattle.xan_lin.specs.Linear.{Linear}
 use Rattle.xan_lin.specs.Subst.{VariablesRise, listed}
-use Rattle.xan_lin.proofs.Tests.{less, equal, unequal, is_less, is_not_less}
+use Rattle.xan_lin.proofs.Booleans.{less, equal, unequal, is_less, is_not_less}
 use Rattle.xan_lin.proofs.Sums.{Lt, Gt, Eq, order}
 
 -- what the search tests

@@ -1,12 +1,11 @@
 -- What stands for terms, one term after another.
-use Rattle.std.proofs.Common.{◌≡◌, ℕ, ◌+◌, ◌<◌, ◌≤◌, ℤ, pos, ◌+ℤ◌, ◌*ℤ◌, List, [], ◌∷◌, ◌++◌, length, drop, get_or, map, nat_lt, Bool, true, false, cond, Some, None, refl, sym, ◌∙◌, ap, arith}
+use Rattle.std.proofs.Common.{◌≡◌, ℕ, ◌+◌, ◌<◌, ◌≤◌, ℤ, pos, ◌+ℤ◌, ◌*ℤ◌, List, [], ◌∷◌, ◌++◌, length, drop, get_or, nat_lt, Bool, true, false, cond, Some, None, refl, sym, ◌∙◌, ap}
 use Rattle.std.proofs.lemmas.List.{append_assoc, append-nil, drop_more, drop_all}
-use Rattle.std.proofs.lemmas.Bool.Decides.{nat_tests}
 use Rattle.xan_lin.specs.Terms.{no_term}
 use Rattle.xan_lin.specs.Linear.{Linear, variable_form}
 use Rattle.xan_lin.specs.Subst.{listed, listed_or_own, zero_form, replacement, multiples, replaced_terms, replaced_constant}
 use Rattle.xan_lin.specs.declared.term.Term.{Term}
-use Rattle.xan_lin.proofs.Tests.{less, not_less}
+use Rattle.xan_lin.proofs.Booleans.{less, not_less}
 use Rattle.xan_lin.proofs.Ring.{add_assoc_ℤ, add_none}
 
 -- ---- what stands for one variable

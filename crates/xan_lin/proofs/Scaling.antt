@@ -6,7 +6,7 @@ use Rattle.xan_lin.specs.Linear.{Linear, IsForm, is_within, all_within, are_with
 use Rattle.xan_lin.specs.declared.term.Term.{Term}
 use Rattle.xan_lin.specs.declared.term.TooLarge.{TooLarge}
 use Rattle.xan_lin.specs.declared.term.TooLarge.TheVariants.{Magnitude}
-use Rattle.xan_lin.proofs.Tests.{both_true, second_false, first_false}
+use Rattle.xan_lin.proofs.Booleans.{both_true, second_false, first_false}
 use Rattle.xan_lin.proofs.Sizes.{sized-large, fits_is}
 use Rattle.xan_lin.proofs.Merging.{length-multiple}
 use Rattle.xan_lin.proofs.Sums.{rises_as, with_multiple-append, IsRising-with_multiple}

@@ -1,11 +1,10 @@
 -- When an exact result is a form.
-use Rattle.std.proofs.Common.{◌≡◌, ℕ, ◌<◌, ◌≤◌, ℤ, Bool, true, false, cond, List, length, nat_lt, Result, Ok, Err, sym, ◌∙◌, ap, arith}
-use Rattle.std.proofs.lemmas.Bool.Decides.{nat_tests}
+use Rattle.std.proofs.Common.{◌≡◌, ◌<◌, ◌≤◌, ℤ, Bool, true, false, cond, List, length, nat_lt, Result, Ok, Err, sym, ◌∙◌, ap}
 use Rattle.xan_lin.specs.Linear.{Linear, are_within, sized}
 use Rattle.xan_lin.specs.declared.term.Term.{Term}
 use Rattle.xan_lin.specs.declared.term.TooLarge.{TooLarge}
 use Rattle.xan_lin.specs.declared.term.TooLarge.TheVariants.{Terms, Magnitude}
-use Rattle.xan_lin.proofs.Tests.{less, not_less}
+use Rattle.xan_lin.proofs.Booleans.{less, not_less}
 
 choice : (b r : Bool) (x y : Result Linear TooLarge) → b ≡ r → cond b x y ≡ cond r x y
 choice b r x y e = ap (λ c. cond c x y) e

@@ -1,12 +1,12 @@
 -- The value of a form in which the variables are replaced.
-use Rattle.std.proofs.Common.{◌≡◌, ℕ, zero, suc, ◌+◌, ◌<◌, ℤ, pos, ◌+ℤ◌, ◌*ℤ◌, Ok, List, [], ◌∷◌, ◌++◌, get_or, refl, sym, ◌∙◌, ap, arith}
+use Rattle.std.proofs.Common.{◌≡◌, ℕ, zero, suc, ◌+◌, ◌<◌, ℤ, pos, ◌+ℤ◌, ◌*ℤ◌, Ok, List, [], ◌∷◌, ◌++◌, get_or, sym, ◌∙◌, ap, arith}
 use Rattle.std.specs.List.{All}
-use Rattle.std.proofs.lemmas.List.Elements.{All-head, All-tail, All-weaker}
+use Rattle.std.proofs.lemmas.List.Elements.{All-head, All-tail}
 use Rattle.xan_lin.specs.Linear.{Linear, NamesBelow}
 use Rattle.xan_lin.specs.Value.{value_at, value_of, value_of_terms}
 use Rattle.xan_lin.specs.Subst.{replacement, multiple, multiples, replaced_terms, replaced_constant, subst_of, Gives, values_from, given_values}
 use Rattle.xan_lin.specs.declared.term.Term.{Term}
-use Rattle.xan_lin.proofs.Ring.{mul-add, zero-mul, mul_comm, mul_assoc, add_assoc_ℤ, add_pairs, add_none, zero-add_ℤ}
+use Rattle.xan_lin.proofs.Ring.{mul-add, zero-mul, mul_comm, mul_assoc, add_assoc_ℤ, add_pairs, zero-add_ℤ}
 use Rattle.xan_lin.proofs.Values.{value-cons, value-none, terms-value}
 use Rattle.xan_lin.proofs.Replacing.{replaced-cons, replaced-none, constant-cons, constant-none}
 

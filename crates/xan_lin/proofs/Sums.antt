@@ -1,10 +1,9 @@
 -- Sums of rising terms: that they rise, and what the merge of two such lists is, term by term.
 use Rattle.std.proofs.Common.{◌≡◌, ◌≢◌, ℕ, zero, suc, ◌^◌, ◌<◌, ◌≤◌, ℤ, pos, negsuc, ◌+ℤ◌, neg_ℤ, unsigned_abs, ◌&&◌, List, [], ◌∷◌, ◌++◌, Bool, true, false, nat_lt, cond, refl, sym, ◌∙◌, ap, subst, arith}
-use Rattle.std.proofs.lemmas.Bool.Decides.{nat_tests}
 use Rattle.xan_lin.specs.Terms.{IsRising, with_multiple, plus_term, sum_terms, negated_terms}
 use Rattle.xan_lin.specs.Linear.{is_within, all_within}
 use Rattle.xan_lin.specs.declared.term.Term.{Term}
-use Rattle.xan_lin.proofs.Tests.{less, not_less}
+use Rattle.xan_lin.proofs.Booleans.{less, not_less}
 
 -- ---- terms that rise
 
