@@ -1,19 +1,13 @@
 -- When an exact result is a form.
-use Rattle.std.proofs.Common.{◌≡◌, ℕ, ◌<◌, ◌≤◌, ℤ, Bool, true, false, cond, List, length, nat_lt, Result, Ok, Err, sym, ◌∙◌, ap, arith}
-use Rattle.std.proofs.lemmas.Bool.Decides.{nat_tests}
+use Rattle.std.proofs.Common.{◌≡◌, ◌<◌, ◌≤◌, ℤ, Bool, true, false, cond, List, length, nat_lt, Result, Ok, Err, sym, ◌∙◌, ap}
 use Rattle.xan_lin.specs.Linear.{Linear, are_within, sized}
 use Rattle.xan_lin.specs.declared.term.Term.{Term}
 use Rattle.xan_lin.specs.declared.term.TooLarge.{TooLarge}
 use Rattle.xan_lin.specs.declared.term.TooLarge.TheVariants.{Terms, Magnitude}
+use Rattle.xan_lin.proofs.Booleans.{less, not_less}
 
 choice : (b r : Bool) (x y : Result Linear TooLarge) → b ≡ r → cond b x y ≡ cond r x y
 choice b r x y e = ap (λ c. cond c x y) e
-
-less : (m n : ℕ) → m < n → nat_lt m n ≡ true
-less m n h = grind (arith, nat_tests)
-
-not_less : (m n : ℕ) → n ≤ m → nat_lt m n ≡ false
-not_less m n h = grind (arith, nat_tests)
 
 pub sized-many : (ts : List Term) (constant : ℤ) → 16 < length ts → sized ts constant ≡ Err Terms
 unfolding sized
