@@ -1,0 +1,7 @@
+pub mod Positions
+pub mod Different
+pub mod Growing
+pub mod Coefficients
+pub mod Dense
+pub mod Spreading
+pub mod Combining

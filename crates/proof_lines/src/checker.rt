@@ -1,0 +1,1 @@
+// The check, line by line.
