@@ -1,9 +1,8 @@
 -- The first bad line and its first reason, as a function.
 use Rattle.std.specs.Prelude.{◌≡◌, ℕ, suc, ℤ, pos, Bool, true, false, ◌&&◌, List, [], ◌∷◌, ◌++◌, length, nat_lt, int_le, Option, Some, None, slice_get, Result, Ok, Err, ◌==◌, if◌then◌else◌}
 use Rattle.std.specs.List.{list_any}
-use Rattle.std.specs.Ordering.{int_eq}
 use Rattle.xan_lin.specs.Linear.{Linear, are_within}
-use Rattle.xan_lin.specs.declared.term.Term.{Term}
+use Rattle.index_sorts.specs.Known.{same_form}
 use Rattle.proof_lines.specs.declared.line.Line.{Line}
 use Rattle.proof_lines.specs.declared.line.Line.TheVariants.{Hyp, Goal, Comb, Cut}
 use Rattle.proof_lines.specs.declared.bad_line.BadLine.{BadLine}
@@ -12,24 +11,10 @@ use Rattle.proof_lines.specs.declared.bad_line.Why.TheVariants as why
 use Rattle.proof_lines.specs.Rows.{opposite_of, combination_of, divides, cut_of, is_refutation}
 use Rattle.proof_lines.specs.Variables.{with_terms, variables}
 
--- ---- equal forms
-
-abbrev pub same_term : Term → Term → Bool
-same_term t u = (t.var == u.var) && int_eq t.coef u.coef
-
-abbrev pub same_terms : List Term → List Term → Bool
-same_terms [] [] = true
-same_terms [] (u ∷ us) = false
-same_terms (t ∷ ts) [] = false
-same_terms (t ∷ ts) (u ∷ us) = same_term t u && same_terms ts us
-
-abbrev pub same_form : Linear → Linear → Bool
-same_form e f = int_eq e.constant f.constant && same_terms e.terms f.terms
+-- ---- one line
 
 abbrev pub is_listed : Linear → List Linear → Bool
 is_listed e hyps = list_any (same_form e) hyps
-
--- ---- one line
 
 -- what a row at a place gives, where there is one
 abbrev pub with_row : Option Linear → (Linear → Result Linear Why) → Result Linear Why

@@ -3,3 +3,4 @@ pub mod Variables
 pub mod Lines
 pub mod Check
 pub mod Cells
+pub mod Code

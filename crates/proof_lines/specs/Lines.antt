@@ -1,6 +1,6 @@
 -- What it is that lines prove a goal from hypotheses.
 use Rattle.std.specs.Prelude.{◌≡◌, ℕ, ◌≤◌, ℤ, pos, ◌≤ℤ◌, IsTrue, List, [], ◌∷◌, ◌++◌, length, Some, slice_get}
-use Rattle.std.specs.List.{All, Contains}
+use Rattle.std.specs.List.{Contains}
 use Rattle.xan_lin.specs.Linear.{Linear, are_within}
 use Rattle.proof_lines.specs.declared.line.Line.{Line}
 use Rattle.proof_lines.specs.declared.line.Line.TheVariants.{Hyp, Goal, Comb, Cut}
@@ -32,27 +32,26 @@ LineGives hyps goal rows Goal row = row ≡ opposite_of goal
 LineGives hyps goal rows (Comb left_by left right_by right) row = IsCombination rows left_by left right_by right row
 LineGives hyps goal rows (Cut from by) row = IsCut rows from by row
 
+-- each number of the row is within the bound of forms
+abbrev pub IsSmall : Linear → Type 0
+IsSmall row = IsTrue (are_within row.terms row.constant)
+
 -- behind the rows of earlier lines, each of the lines gives one of the rows
 abbrev pub LinesGive : List Linear → Linear → List Linear → List Line → List Linear → Type 0
 LinesGive hyps goal before [] rows = rows ≡ []
 LinesGive hyps goal before (line ∷ lines) [] = ⊥
-LinesGive hyps goal before (line ∷ lines) (row ∷ rows) = LineGives hyps goal before line row × LinesGive hyps goal (before ++ row ∷ []) lines rows
+LinesGive hyps goal before (line ∷ lines) (row ∷ rows) = LineGives hyps goal before line row × IsSmall row × LinesGive hyps goal (before ++ row ∷ []) lines rows
 
--- the last row cannot hold
+-- there is a last row, and it cannot hold
 pub record EndsRefuted (rows : List Linear) : Type 0 where
   pub before : List Linear
   pub last : Linear
   pub rows_are : rows ≡ before ++ last ∷ []
   pub refuted : IsRefutation last
 
--- each number of the row is within the bound
-abbrev pub IsSmall : Linear → Type 0
-IsSmall row = IsTrue (are_within row.terms row.constant)
-
 -- the lines prove the goal from the hypotheses
 pub record LinesProve (hyps : List Linear) (goal : Linear) (lines : List Line) : Type 0 where
   pub rows : List Linear
   pub given : LinesGive hyps goal [] lines rows
-  pub small : All IsSmall rows
   pub few_variables : length (variables rows) ≤ 64
   pub ends : EndsRefuted rows

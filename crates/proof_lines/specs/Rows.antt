@@ -6,6 +6,7 @@ use Rattle.std.specs.Ordering.{int_eq}
 use Rattle.xan_lin.specs.Terms.{sum_terms, negated_terms, scaled_terms}
 use Rattle.xan_lin.specs.Linear.{Linear}
 use Rattle.xan_lin.specs.declared.term.Term.{Term}
+use Rattle.index_sorts.specs.Known.{no_terms}
 
 -- it holds exactly where the row `q` does not: -q - 1
 abbrev pub opposite_of : Linear → Linear
@@ -46,10 +47,6 @@ pub record IsRefutation (row : Linear) : Type 0 where
   pub negative : row.constant <ℤ pos 0
 
 -- ---- the same as a test
-
-abbrev pub no_terms : List Term → Bool
-no_terms [] = true
-no_terms (t ∷ ts) = false
 
 abbrev pub is_refutation : Linear → Bool
 is_refutation row = no_terms row.terms && int_lt row.constant (pos 0)

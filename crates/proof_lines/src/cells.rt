@@ -7,7 +7,7 @@ ghost use Rattle.xan_lin.specs.Linear.{is_within};
 ghost use Rattle.proof_lines.specs.Rows.{floor_over, is_multiple};
 ghost use Rattle.proof_lines.specs.Variables.{with_terms};
 ghost use Rattle.proof_lines.specs.Check.{is_positive};
-ghost use Rattle.proof_lines.specs.Cells.{AreDifferent, dense, is_zero, combined_cells};
+ghost use Rattle.proof_lines.specs.Cells.{AreDifferent, dense, is_zero, combined_cells, cannot_hold};
 
 use crate::columns::{Columns, MOST_COLUMNS};
 use crate::row::{number_combination, number_divides, number_floor};
@@ -26,7 +26,7 @@ pub(crate) fn spread(columns: &mut Columns, terms: &[Term], constant: &i64) -> O
     requires few { length columns.old ≤ 64 }
     requires different { AreDifferent columns.old }
     ensures { MatchOption result (nat_lt 64 (length (with_terms columns.old terms.now)) ≡ true)
-        (λ cells. (columns.new ≡ with_terms columns.old terms.now)
+        (λ cells. (columns.new ≡ with_terms columns.old terms.now) × (length columns.new ≤ 64) × AreDifferent columns.new
             × (cells.items ≡ dense columns.new (record { terms = terms.now; constant = constant.now }))) }
 {
     let mut cells = [0i64; WIDTH];
@@ -82,9 +82,9 @@ pub(crate) fn divided(row: &[i64], by: &i64) -> Cells
 }
 
 /// Whether the row has no variable and a negative constant.
-pub(crate) fn cannot_hold(row: &[i64]) -> bool
+pub(crate) fn is_impossible(row: &[i64]) -> bool
     requires { length row.now ≡ 65 }
-    ensures { result ≡ (list_all is_zero (take 64 row.now) && int_lt (slice_index_or row.now 64 (pos 0)) (pos 0)) }
+    ensures { result ≡ cannot_hold row.now }
 {
     has_no_variable(row) && is_negative(&row[MOST_COLUMNS])
 }

@@ -1,7 +1,9 @@
 // The search for a row among the hypotheses.
 ghost use Rattle.std.specs.Prelude.{◌≡◌};
 ghost use Rattle.std.specs.List.{position};
-ghost use Rattle.proof_lines.specs.Check.{same_terms, same_form, is_listed};
+ghost use Rattle.std.specs.Cmp.Lexicographic.{pointwise};
+ghost use Rattle.index_sorts.specs.Known.{same_term, same_form};
+ghost use Rattle.proof_lines.specs.Check.{is_listed};
 
 use xan_lin::{Form, Term};
 
@@ -39,7 +41,7 @@ fn are_same(left: &Form, right: &Form) -> bool
 
 // Whether the terms are equal.
 fn are_same_terms(left: &[Term], right: &[Term]) -> bool
-    ensures { result ≡ same_terms left.now right.now }
+    ensures { result ≡ pointwise same_term left.now right.now }
 {
     left == right
 }

@@ -1,8 +1,8 @@
 // The form and its calls.
-ghost use Rattle.std.specs.Prelude.{◌≡◌, pos, [], ◌∷◌, length, ◌≤◌, ◌++◌, OnOk, OnErr};
+ghost use Rattle.std.specs.Prelude.{◌≡◌, pos, [], ◌∷◌, length, ◌≤◌, ◌++◌, IsTrue, IfErr, OnOk, OnErr};
 ghost use Rattle.xan_lin.specs.Terms.{IsRising};
 ghost use Rattle.xan_lin.specs.Text.{form_text};
-ghost use Rattle.xan_lin.specs.Linear.{sized, sum_of, difference_of, form_of, product_of, negated_row_of};
+ghost use Rattle.xan_lin.specs.Linear.{are_within, sized, sum_of, difference_of, form_of, product_of, negated_row_of};
 
 use crate::gather::gathered;
 use crate::merge::{
@@ -66,6 +66,7 @@ impl Form {
         ensures terms { result.now ≡ self.now.terms }
         ensures rising { IsRising 0 result.now }
         ensures few { length result.now ≤ 16 }
+        ensures small { IsTrue (are_within self.now.terms self.now.constant) }
     {
         self.terms.as_slice()
     }
@@ -128,7 +129,8 @@ impl Form {
     /// The row `-e - 1` for the row `e`: it holds exactly where `e` does not. It has as many terms as `e`, so that only `Magnitude`
     /// comes, exactly where a number of it is past `BOUND`.
     pub fn negated_row(&self) -> Result<Form, TooLarge>
-        ensures { result ≡ negated_row_of self.now }
+        ensures exact { result ≡ negated_row_of self.now }
+        ensures large { IfErr result (λ error. error ≡ TooLarge.Magnitude) }
     {
         let terms = negated(self.terms.as_slice());
         let constant = below_negated(&self.constant);

@@ -22,4 +22,4 @@ returns-in_default c = spreads_past _ _ _ _ _ _ c.terms.invariant c.terms-test.t
 pub returns : goal.returns
 returns c =
     let s = spreads_all _ _ _ _ _ _ c.terms.invariant c.terms-test.false in
-    (s.0, c.from.ensures.0 ∙ s.1)
+    (s.0, c.terms.invariant.few, c.terms.invariant.different, c.from.ensures.0 ∙ s.1)

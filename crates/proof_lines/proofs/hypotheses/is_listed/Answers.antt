@@ -1,6 +1,6 @@
 use Rattle.std.proofs.Common.{sym}
 use Rattle.proof_lines.proofs.Positions.{any_in_back, any_in_front, any_nowhere}
-use Rattle.proof_lines.specs.Check.{same_form}
+use Rattle.index_sorts.specs.Known.{same_form}
 use Rattle.proof_lines.proofs.hypotheses.is_listed.Goals as goal
 
 pub returns-in-Some : goal.returns-in-Some
