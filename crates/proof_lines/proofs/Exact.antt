@@ -1,5 +1,5 @@
 -- The check answers Ok exactly where the lines prove the goal.
-use Rattle.std.proofs.Common.{◌≡◌, ℕ, zero, suc, ◌+◌, ◌-◌, ◌<◌, ◌≤◌, ℤ, pos, ◌≤ℤ◌, ◌<ℤ◌, ◌&&◌, ◌⊎◌, inl, inr, Bool, true, false, cond, nat_lt, int_lt, int_le, IsTrue, List, [], ◌∷◌, ◌++◌, length, get_or, Option, Some, None, slice_get, Result, Ok, Err, Contains, Decides, refl, sym, ◌∙◌, ap, subst, arith}
+use Rattle.std.proofs.Common.{◌≡◌, ℕ, zero, suc, ◌+◌, ◌-◌, ◌<◌, ◌≤◌, ℤ, pos, ◌≤ℤ◌, ◌<ℤ◌, ◌&&◌, ◌⊎◌, inl, inr, Bool, true, false, cond, nat_lt, int_lt, int_le, IsTrue, IsOk, List, [], ◌∷◌, ◌++◌, length, get_or, Option, Some, None, slice_get, Result, Ok, Err, Contains, Decides, refl, sym, ◌∙◌, ap, subst, arith}
 use Rattle.std.specs.List.{list_any}
 use Rattle.std.proofs.lemmas.Int.{ints}
 use Rattle.std.proofs.lemmas.Bool.Decides.{nat_tests}
@@ -259,3 +259,9 @@ Decides-checked hyps goal lines = (
   λ e. (let r = proved_from hyps goal 0 [] lines no_variables e in record { rows = r.rows; given = r.given; few_variables = r.few; ends = r.ends }),
   λ p. proved_to hyps goal 0 [] lines p.rows p.given p.few_variables p.ends,
 )
+
+-- the same of an answer
+pub Decides-answer : (hyps : List Linear) (goal : Linear) (lines : List Line) (answer : Result (Unit {0}) BadLine) → answer ≡ checked hyps goal lines
+    → (IsOk answer → LinesProve hyps goal lines) × (LinesProve hyps goal lines → IsOk answer)
+Decides-answer hyps goal lines (Ok tt) e = (λ _. (Decides-checked hyps goal lines).0 (sym e), λ _. refl)
+Decides-answer hyps goal lines (Err bad) e = (λ h. cc, λ p. (let ok = (Decides-checked hyps goal lines).1 p in cc))

@@ -13,3 +13,4 @@ pub mod Quotients
 pub mod Steps
 pub mod Walking
 pub mod Exact
+pub mod Soundness

@@ -13,8 +13,28 @@ use crate::cells::{Cells, combined, divided, divides_coefficients, is_impossible
 use crate::columns::Columns;
 use crate::hypotheses::is_listed;
 use crate::line::Line;
+use index_sorts::Context;
 use xan_lin::Form;
 use xan_pool::{RowId, RowPool};
+
+/// Checks that the lines prove the goal from the rows of the context: under every assignment of integers under which these rows hold, the
+/// goal holds.
+///
+/// `Ok` comes exactly where they do. Else the answer is the first bad line and the first reason that it has, in the order of [`Why`]. The
+/// pool lends the room for the rows of the lines, and is as before at the end. No memory is taken.
+pub fn check_lines(pool: &mut RowPool, ctx: &Context, goal: &Form, lines: &[Line]) -> Result<(), BadLine>
+    requires width { pool.old.width ≡ 65 }
+    requires countable { length lines.now < 2 ^ 32 }
+    requires room { length pool.old.rows + length lines.now ≤ pool.old.capacity }
+    ensures proved { IsOk result ↔ LinesProve ctx.now.rows goal.now lines.now }
+    ensures first_bad { result ≡ checked ctx.now.rows goal.now lines.now }
+    ensures unchanged { pool.new ≡ pool.old }
+{
+    let start = pool.mark();
+    let answer = walk(pool, ctx.rows(), goal, lines);
+    pool.release(start);
+    answer
+}
 
 // The row of a line that many lines before it, of the rows of a pool from `base` on.
 fn row_at(pool: &RowPool, base: usize, number: u32) -> Option<&[i64]>
