@@ -1,6 +1,4 @@
-use Rattle.std.proofs.Common.{length, ap, ◌∙◌, arith}
-use Rattle.std.proofs.lemmas.List.{length-map}
-use Rattle.xan_lin.specs.Terms.{negated_term}
+use Rattle.std.proofs.Common.{◌∙◌, arith}
 use Rattle.xan_lin.proofs.Sums.{rises_as, IsRising-negated}
 use Rattle.xan_lin.proofs.Sizes.{few_errors}
 use Rattle.xan_lin.proofs.form.Form.negated_row.Goals as goal
