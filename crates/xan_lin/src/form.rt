@@ -1,8 +1,8 @@
 // The form and its calls.
-ghost use Rattle.std.specs.Prelude.{◌≡◌, ◌↔◌, length, ◌≤◌, ◌++◌, OnOk, OnErr, IsTrue};
+ghost use Rattle.std.specs.Prelude.{◌≡◌, ◌↔◌, length, ◌≤◌, ◌++◌, OnOk, OnErr, IfErr, IsTrue};
 ghost use Rattle.xan_lin.specs.Terms.{IsRising};
 ghost use Rattle.xan_lin.specs.Text.{form_text};
-ghost use Rattle.xan_lin.specs.Linear.{sized, sum_of, difference_of, form_of, product_of, negated_row_of, variable_form, NamesBelow};
+ghost use Rattle.xan_lin.specs.Linear.{are_within, sized, sum_of, difference_of, form_of, product_of, negated_row_of, variable_form, NamesBelow};
 ghost use Rattle.xan_lin.specs.Value.{value_of, Holds};
 ghost use Rattle.xan_lin.specs.Subst.{VariablesRise, subst_of};
 
@@ -71,6 +71,7 @@ impl Form {
         ensures terms { result.now ≡ self.now.terms }
         ensures rising { IsRising 0 result.now }
         ensures few { length result.now ≤ 16 }
+        ensures small { IsTrue (are_within self.now.terms self.now.constant) }
     {
         self.terms.as_slice()
     }
@@ -133,7 +134,8 @@ impl Form {
     /// The row `-e - 1` for the row `e`: it holds exactly where `e` does not. It has as many terms as `e`, so that only `Magnitude`
     /// comes, exactly where a number of it is past `BOUND`.
     pub fn negated_row(&self) -> Result<Form, TooLarge>
-        ensures { result ≡ negated_row_of self.now }
+        ensures exact { result ≡ negated_row_of self.now }
+        ensures large { IfErr result (λ error. error ≡ TooLarge.Magnitude) }
     {
         let terms = negated(self.terms.as_slice());
         let constant = below_negated(&self.constant);

@@ -1,0 +1,16 @@
+pub mod Positions
+pub mod Different
+pub mod Growing
+pub mod Coefficients
+pub mod Dense
+pub mod Spreading
+pub mod Combining
+pub mod Opposites
+pub mod Lasts
+pub mod Tests
+pub mod Proper
+pub mod Quotients
+pub mod Steps
+pub mod Walking
+pub mod Exact
+pub mod Soundness

@@ -1,0 +1,6 @@
+pub mod Rows
+pub mod Variables
+pub mod Lines
+pub mod Check
+pub mod Cells
+pub mod Code
