@@ -1,6 +1,5 @@
 -- When an exact result is a form.
-use Rattle.std.proofs.Common.{◌≡◌, ℕ, ◌<◌, ◌≤◌, ℤ, Bool, true, false, cond, List, length, nat_lt, Result, Ok, Err, IfErr, sym, ◌∙◌, ap, arith}
-use Rattle.std.proofs.lemmas.Bool.Decides.{nat_tests}
+use Rattle.std.proofs.Common.{◌≡◌, ◌<◌, ◌≤◌, ℤ, Bool, true, false, cond, List, length, nat_lt, Result, Ok, Err, IfErr, sym, ◌∙◌, ap}
 use Rattle.xan_lin.specs.Linear.{Linear, are_within, sized}
 use Rattle.xan_lin.specs.declared.term.Term.{Term}
 use Rattle.xan_lin.specs.declared.term.TooLarge.{TooLarge}
