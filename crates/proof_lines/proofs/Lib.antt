@@ -14,3 +14,8 @@ pub mod Steps
 pub mod Walking
 pub mod Exact
 pub mod Soundness
+pub mod Readers
+pub mod Forms
+pub mod FormLoop
+pub mod LineTexts
+pub mod Fronts
