@@ -309,7 +309,7 @@ exact-form zero low = exact_as _ (InTurn (IsSigned 0 4611686018427387903) (λ z.
     (exact-in_turn _ _ (IsSigned 0 4611686018427387903) (λ z. IsGiven (constant_form z)) NoDigit Stops exact-number_of (λ z _ _. given (constant_form z) Stops)
     (λ z y back rest g h. passed (constant_form z) y NoDigit back rest g h.item))
     (λ y text i. subst (λ (f : Linear). FormAt 0 low f text) (sym i.second.value)
-      (constant_at 0 low i.value text (subst (IsSigned 0 4611686018427387903 i.value) (sym (i.parts ∙ ap (λ (t : List ℕ). i.front ++ t) i.second.no_bytes ∙ append-nil i.front)) i.first)))
+    (constant_at 0 low i.value text (subst (IsSigned 0 4611686018427387903 i.value) (sym (i.parts ∙ ap (λ (t : List ℕ). i.front ++ t) i.second.no_bytes ∙ append-nil i.front)) i.first)))
     (λ y text at. only_constant y.terms y.constant text at)
     (λ _ h. h)
   where

@@ -146,14 +146,14 @@ exact-one_line = exact_as _ IsLineInTurn IsLineText Stops Stops
     (exact-in_turn _ _ (IsWord kinds) IsOperands (λ _. Unit {0}) Stops (exact-word _ _ refl) (λ k _ _. exact-operands k) (λ _ _ _ _ _ _. tt))
     (λ l text i. subst (IsLineText l) (sym (i.parts ∙ ap (λ (t : List ℕ). t ++ i.back) (kind_is i.value i.front i.first))) (made_line i.value l i.back i.second))
     (λ l text t. (let o = has_operands l t.fits in
-      record {
-        value = o.kind_of;
-        front = kind_text o.kind_of;
-        back = o.text;
-        first = is_kind o.kind_of;
-        second = o.are;
-        parts = t.is ∙ sym (made_line o.kind_of l o.text o.are).is;
-      }))
+    record {
+      value = o.kind_of;
+      front = kind_text o.kind_of;
+      back = o.text;
+      first = is_kind o.kind_of;
+      second = o.are;
+      parts = t.is ∙ sym (made_line o.kind_of l o.text o.are).is;
+    }))
     (λ _ h. h)
 
 -- ---- lines

@@ -185,6 +185,7 @@ quotient-nonzero (pos a) (pos b) m h n e =
   where
     above : (a b : ℕ) → is_positive (pos b) ≡ true → 0 < b
     above a b h = grind (arith, ints)
+
     vanishes : (a b : ℕ) → 0 < b → pos (a % b) ≡ pos 0 → pos (a / b) ≡ pos 0 → a ≡ 0
     vanishes a b h d e =
         let r : a % b ≡ 0 = cc in

@@ -156,7 +156,7 @@ pub proved-entailed : (hyps : List Linear) (goal : Linear) (lines : List Line) �
 proved-entailed hyps goal lines p = record {
   follows = λ values all. by_lt_z (value_of values goal) (pos 0)
       (λ fails. (let holds = rows_hold values hyps goal [] lines p.rows all fails (λ k d h. absurd (omega arith)) p.given in
-        let last = All-contains (Holds values) p.rows p.ends.last holds (subst (λ (rs : List Linear). Contains rs p.ends.last) (sym p.ends.rows_are) (Contains-push p.ends.before p.ends.last)) in
-        absurd (cannot values p.ends.last p.ends.refuted last)))
+      let last = All-contains (Holds values) p.rows p.ends.last holds (subst (λ (rs : List Linear). Contains rs p.ends.last) (sym p.ends.rows_are) (Contains-push p.ends.before p.ends.last)) in
+      absurd (cannot values p.ends.last p.ends.refuted last)))
       (λ holds. holds);
 }

@@ -84,6 +84,7 @@ pub spreads_all : (before columns : List ℕ) (cells : List ℤ) (terms : List T
     → Spreading before columns cells terms constant at → length terms ≤ at
     → (columns ≡ with_terms before terms) × (cells ≡ dense columns (record { terms = terms; constant = constant }))
 spreads_all before columns cells terms constant at s h =
-    let all : take at terms ≡ terms = take_all at terms h in
-    (s.columns_are ∙ ap (λ ts. with_terms before ts) all,
-    s.cells_are ∙ ap (λ ts. let row : Linear = record { terms = ts; constant = constant } in dense columns row) all)
+    let all : take at terms ≡ terms = take_all at terms h in (
+      s.columns_are ∙ ap (λ ts. with_terms before ts) all,
+      s.cells_are ∙ ap (λ ts. let row : Linear = record { terms = ts; constant = constant } in dense columns row) all,
+    )

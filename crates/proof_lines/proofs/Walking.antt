@@ -92,9 +92,9 @@ walks_more hyps goal lines before pool new_pool base columns after at line cells
       pool_is = change
           ∙ ap (λ p. let q : Pool = record p { rows = p.rows ++ cells ∷ [] } in q) w.pool_is
           ∙ ap (λ rows. let q : Pool = record before { rows = rows } in q)
-            (append_assoc before.rows (map (dense columns) w.rows) (cells ∷ [])
-            ∙ ap (λ rows. before.rows ++ rows) (ap (λ rows. rows ++ cells ∷ []) grown ∙ ap (λ c. map (dense after) w.rows ++ c ∷ []) g.cells_are
-            ∙ sym (map-append (dense after) w.rows (g.row ∷ []))));
+          (append_assoc before.rows (map (dense columns) w.rows) (cells ∷ [])
+          ∙ ap (λ rows. before.rows ++ rows) (ap (λ rows. rows ++ cells ∷ []) grown ∙ ap (λ c. map (dense after) w.rows ++ c ∷ []) g.cells_are
+          ∙ sym (map-append (dense after) w.rows (g.row ∷ []))));
       base_is = w.base_is;
       stands = record {
         columns_are = g.columns_are ∙ ap (λ vs. with_terms vs g.row.terms) w.stands.columns_are ∙ sym (with_rows-push [] w.rows g.row);

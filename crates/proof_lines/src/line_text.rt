@@ -10,7 +10,9 @@ use crate::form_text::read_form;
 use crate::line::Line;
 use crate::text_error::LineTextError;
 use std::alloc::Global;
-use xan_read::{Fault, Production, ReadError, integer, literal, nothing_left, number, separated, word};
+use xan_read::{
+    Fault, Production, ReadError, integer, literal, nothing_left, number, separated, word,
+};
 
 /// The greatest number of a row, and one more than the most lines behind the first.
 const LAST_ROW: u64 = 4294967295;
@@ -87,7 +89,15 @@ fn read_operands(bytes: &[u8], kind: Kind) -> Result<(Line, &[u8]), Fault>
         Kind::Goal => Ok((Line::Goal, bytes)),
         Kind::Comb => {
             let (((left_by, left), (right_by, right)), rest) = read_two_multiples(bytes)?;
-            Ok((Line::Comb { left_by, left, right_by, right }, rest))
+            Ok((
+                Line::Comb {
+                    left_by,
+                    left,
+                    right_by,
+                    right,
+                },
+                rest,
+            ))
         }
         Kind::Cut => {
             let ((row, by), rest) = read_division(bytes)?;

@@ -108,7 +108,10 @@ fn put_line(out: &mut Vec<u8>, line: &Line) -> Result<(), Memory>
             left,
             right_by,
             right,
-        } => put(out, combination_text(left_by, *left, right_by, *right).as_slice()),
+        } => put(
+            out,
+            combination_text(left_by, *left, right_by, *right).as_slice(),
+        ),
         Line::Cut { row, by } => put(out, cut_text(*row, by).as_slice()),
     }
 }
