@@ -1,6 +1,5 @@
 -- The check answers Ok exactly where the lines prove the goal.
-use Rattle.std.proofs.Common.{◌≡◌, ℕ, zero, suc, ◌+◌, ◌-◌, ◌<◌, ◌≤◌, ℤ, pos, ◌≤ℤ◌, ◌<ℤ◌, ◌&&◌, ◌⊎◌, inl, inr, Bool, true, false, cond, nat_lt, int_lt, int_le, IsTrue, IsOk, List, [], ◌∷◌, ◌++◌, length, get_or, Option, Some, None, slice_get, Result, Ok, Err, Contains, Decides, refl, sym, ◌∙◌, ap, subst, arith}
-use Rattle.std.specs.List.{list_any}
+use Rattle.std.proofs.Common.{◌≡◌, ℕ, suc, ◌≤◌, ℤ, pos, ◌≤ℤ◌, ◌<ℤ◌, ◌&&◌, Bool, true, false, cond, nat_lt, int_lt, IsOk, List, [], ◌∷◌, ◌++◌, length, get_or, Option, Some, None, slice_get, Result, Ok, Err, Contains, refl, sym, ◌∙◌, ap, subst, arith}
 use Rattle.std.proofs.lemmas.Int.{ints}
 use Rattle.std.proofs.lemmas.Bool.Decides.{nat_tests}
 use Rattle.std.proofs.lemmas.List.{append_assoc, append-nil}
@@ -17,7 +16,7 @@ use Rattle.proof_lines.specs.declared.bad_line.BadLine.{BadLine}
 use Rattle.proof_lines.specs.declared.bad_line.Why.TheVariants as why
 use Rattle.proof_lines.specs.Rows.{opposite_of, combination_of, cut_of, divides, IsRefutation, is_refutation}
 use Rattle.proof_lines.specs.Variables.{with_terms, with_rows, variables}
-use Rattle.proof_lines.specs.Lines.{IsCombination, IsCut, LineGives, IsSmall, LinesGive, EndsRefuted, LinesProve}
+use Rattle.proof_lines.specs.Lines.{LineGives, IsSmall, LinesGive, EndsRefuted, LinesProve}
 use Rattle.proof_lines.specs.Check.{is_listed, with_row, bounded, is_positive, row_given, ends_refuted, goes_on, checked_from, checked}
 use Rattle.proof_lines.proofs.Growing.{with_rows-push, length-with_terms}
 use Rattle.proof_lines.proofs.Proper.{both, join}

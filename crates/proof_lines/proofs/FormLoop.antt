@@ -1,8 +1,7 @@
 -- The loop over the parts of a form, one part at a time, and the form that comes of it.
-use Rattle.std.proofs.Common.{◌≡◌, ℕ, zero, suc, ◌+◌, ◌-◌, ◌<◌, ◌≤◌, ℤ, ◌&&◌, Bool, true, List, [], ◌∷◌, ◌++◌, length, Result, Ok, Err, refl, sym, ap, ◌∙◌, append_assoc, arith}
+use Rattle.std.proofs.Common.{◌≡◌, ℕ, suc, ◌+◌, ◌-◌, ◌<◌, ◌≤◌, ℤ, List, [], ◌∷◌, ◌++◌, length, Result, Ok, Err, refl, sym, ap, ◌∙◌, append_assoc, arith}
 use Rattle.std.proofs.lemmas.List.{append-nil}
-use Rattle.xan_lin.specs.Terms.{sum_terms}
-use Rattle.xan_lin.specs.Linear.{Linear, is_within, all_within, are_within, sized, form_of}
+use Rattle.xan_lin.specs.Linear.{Linear, is_within, all_within, sized, form_of}
 use Rattle.xan_lin.specs.declared.term.Term.{Term}
 use Rattle.xan_lin.specs.declared.term.TooLarge.{TooLarge}
 use Rattle.xan_lin.proofs.Sums.{sum-none}
@@ -13,7 +12,7 @@ use Rattle.proof_lines.specs.declared.form_text.Part.{Part}
 use Rattle.proof_lines.specs.declared.form_text.Part.TheVariants as part
 use Rattle.proof_lines.specs.Reading.{form_part, with_front, form, onto_form}
 use Rattle.proof_lines.proofs.Proper.{join}
-use Rattle.proof_lines.proofs.Forms.{FormAt, exact-form}
+use Rattle.proof_lines.proofs.Forms.{exact-form}
 
 pub record Reading (made : List Term) (counter low : ℕ) (rest bytes : List ℕ) : Type 0 where
   pub same : onto_form made (form (16 - counter) low rest) ≡ onto_form [] (form 16 0 bytes)

@@ -1,5 +1,5 @@
 -- What is read as a form is spelled so, and what is spelled so is read.
-use Rattle.std.proofs.Common.{◌≡◌, ◌≢◌, ◌⊎◌, inl, inr, ℕ, zero, suc, ◌^◌, ◌<◌, ◌≤◌, ℤ, pos, negsuc, nat_abs, unsigned_abs, ◌&&◌, not, Bool, true, false, cond, nat_lt, IsTrue, List, [], ◌∷◌, ◌++◌, length, None, codes, decimal, refl, sym, ap, subst, ◌∙◌, append_assoc, arith}
+use Rattle.std.proofs.Common.{◌≡◌, ◌≢◌, inl, inr, ℕ, zero, suc, ◌≤◌, ℤ, pos, negsuc, nat_abs, not, Bool, true, false, cond, nat_lt, List, [], ◌∷◌, ◌++◌, length, None, codes, decimal, refl, sym, ap, subst, ◌∙◌, append_assoc, arith}
 use Rattle.std.specs.Ordering.{int_eq}
 use Rattle.std.proofs.lemmas.List.{append-nil}
 use Rattle.std.proofs.lemmas.Bool.Decides.{nat_tests, Decides-int_eq}
@@ -8,7 +8,7 @@ use Rattle.xan_lin.specs.Linear.{Linear, IsForm, is_within, all_within}
 use Rattle.xan_lin.specs.Text.{number_text, term_text, terms_text, form_text}
 use Rattle.xan_lin.specs.declared.term.Term.{Term}
 use Rattle.xan_read.specs.Reader.{Reader, Exact}
-use Rattle.xan_read.specs.Combinators.{give, IsGiven, in_turn, InTurn, IsBehind, WhereComes, where_comes, after}
+use Rattle.xan_read.specs.Combinators.{give, IsGiven, in_turn, InTurn, WhereComes, where_comes, after}
 use Rattle.xan_read.specs.Lists.{Ends}
 use Rattle.xan_read.specs.Numbers.{IsNumber, NoDigit, number}
 use Rattle.xan_read.specs.Integers.{IsSigned, with_sign, signed}

@@ -7,7 +7,7 @@ pub mod Spreading
 pub mod Combining
 pub mod Opposites
 pub mod Lasts
-pub mod Tests
+pub mod Passing
 pub mod Proper
 pub mod Quotients
 pub mod Steps

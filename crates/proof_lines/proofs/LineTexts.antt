@@ -1,14 +1,12 @@
 -- What is read as lines is spelled so, and what is spelled so is read.
-use Rattle.std.proofs.Common.{◌≡◌, ◌⊎◌, inl, inr, ℕ, zero, suc, ◌-◌, ◌<◌, ◌≤◌, ◌^◌, ℤ, List, [], ◌∷◌, ◌++◌, length, Result, Ok, Err, IfOk, None, codes, decimal, refl, sym, ap, subst, ◌∙◌, append_assoc, arith}
+use Rattle.std.proofs.Common.{◌≡◌, inl, inr, ℕ, ℤ, List, [], ◌∷◌, ◌++◌, length, Ok, codes, decimal, refl, sym, ap, subst, ◌∙◌, arith}
 use Rattle.std.specs.Fmt.{signed_decimal}
-use Rattle.std.proofs.lemmas.List.{append-nil}
-use Rattle.xan_lin.specs.Linear.{Linear}
 use Rattle.xan_lin.specs.Text.{form_text}
-use Rattle.xan_read.specs.Reader.{Exact, IsLongest, whole_text, ReadsWhole}
-use Rattle.xan_read.specs.Combinators.{give, IsGiven, in_turn, InTurn, IsBehind, after}
-use Rattle.xan_read.specs.Lists.{Ends, AreBehind, IsRepeated, IsSeparated}
-use Rattle.xan_read.specs.Numbers.{IsNumber, NoDigit, number}
-use Rattle.xan_read.specs.Integers.{IsInteger, IsFromTo, integer}
+use Rattle.xan_read.specs.Reader.{Exact, whole_text, ReadsWhole}
+use Rattle.xan_read.specs.Combinators.{IsGiven, InTurn, IsBehind, after}
+use Rattle.xan_read.specs.Lists.{Ends, AreBehind, IsSeparated}
+use Rattle.xan_read.specs.Numbers.{NoDigit, number}
+use Rattle.xan_read.specs.Integers.{IsInteger, integer}
 use Rattle.xan_read.specs.Spelled.{Any, Spelled, IsBetween}
 use Rattle.xan_read.specs.Words.{IsWord}
 use Rattle.xan_read.specs.Code.{Fails}
@@ -24,9 +22,9 @@ use Rattle.proof_lines.specs.declared.line.Line.TheVariants as line
 use Rattle.proof_lines.specs.declared.text_error.LineTextError.{LineTextError}
 use Rattle.proof_lines.specs.declared.line_text.Kind.{Kind}
 use Rattle.proof_lines.specs.declared.line_text.Kind.TheVariants as kind
-use Rattle.proof_lines.specs.Spelling.{line_text, more_text, lines_text, IsRowNumber, IsMultiplier, IsLine, AreLines, IsLinesText, Refuses, said_of}
-use Rattle.proof_lines.specs.Reading.{form, multiple, two_multiples, division, kinds, operands, one_line, lines}
-use Rattle.proof_lines.proofs.Readers.{given, passed, IsMade, exact_made, exact_pair, Both, spaced}
+use Rattle.proof_lines.specs.Spelling.{line_text, more_text, IsRowNumber, IsMultiplier, IsLine, AreLines, IsLinesText, Refuses, said_of}
+use Rattle.proof_lines.specs.Reading.{multiple, two_multiples, division, kinds, operands, one_line, lines}
+use Rattle.proof_lines.proofs.Readers.{given, IsMade, exact_made, exact_pair, Both, spaced}
 use Rattle.proof_lines.proofs.Forms.{Stops, IsFormLine, spelled-form}
 
 -- ---- numbers

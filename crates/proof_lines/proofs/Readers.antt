@@ -1,5 +1,5 @@
 -- Laws of readers that xan_read has not: values that are made of what was read, and two in turn with a space between.
-use Rattle.std.proofs.Common.{◌≡◌, ℕ, List, [], ◌∷◌, ◌++◌, codes, refl, sym, ap, subst, ◌∙◌}
+use Rattle.std.proofs.Common.{◌≡◌, ℕ, List, [], ◌++◌, codes, refl, sym, ap, subst, ◌∙◌}
 use Rattle.std.proofs.lemmas.List.{append-nil}
 use Rattle.xan_read.specs.Reader.{Reader, Exact}
 use Rattle.xan_read.specs.Combinators.{give, IsGiven, in_turn, InTurn, behind}

@@ -1,13 +1,12 @@
 -- What lines prove is entailed: each row holds where the hypotheses do and the goal does not, and the last one cannot.
-use Rattle.std.proofs.Common.{◌≡◌, ℕ, zero, suc, ◌+◌, ◌*◌, ◌-◌, ◌/◌, ◌%◌, ◌<◌, ◌≤◌, ℤ, pos, negsuc, ◌+ℤ◌, ◌-ℤ◌, ◌*ℤ◌, neg_ℤ, ◌≤ℤ◌, ◌<ℤ◌, ◌&&◌, Bool, true, false, List, [], ◌∷◌, ◌++◌, length, map, get_or, Some, slice_get, All, Contains, refl, sym, ◌∙◌, ap, subst, arith}
-use Rattle.std.specs.List.{list_all}
+use Rattle.std.proofs.Common.{◌≡◌, ℕ, ◌*◌, ◌<◌, ℤ, pos, negsuc, ◌+ℤ◌, ◌-ℤ◌, ◌*ℤ◌, neg_ℤ, ◌≤ℤ◌, ◌<ℤ◌, true, List, [], ◌∷◌, ◌++◌, map, Some, slice_get, Contains, sym, ◌∙◌, ap, subst, arith}
 use Rattle.std.proofs.lemmas.Int.{ints, by_lt_z}
-use Rattle.std.proofs.lemmas.Bool.Decides.{nat_tests, Decides-int_eq}
+use Rattle.std.proofs.lemmas.Bool.Decides.{Decides-int_eq}
 use Rattle.std.proofs.lemmas.List.{append_assoc, append-nil}
 use Rattle.std.proofs.lemmas.List.Elements.{All-contains, All-push, Contains-push}
 use Rattle.std.proofs.lemmas.Option.{slice_get_within, get_or_from_slice_get}
 use Rattle.xan_lin.specs.Linear.{Linear}
-use Rattle.xan_lin.specs.Terms.{scaled_terms, negated_terms}
+use Rattle.xan_lin.specs.Terms.{scaled_terms}
 use Rattle.xan_lin.specs.Value.{value_at, value_of_terms, value_of, Holds}
 use Rattle.xan_lin.specs.declared.term.Term.{Term}
 use Rattle.xan_lin.proofs.Ring.{add-mul, mul_comm, mul_assoc, zero-mul, add_pairs, neg_less}
@@ -16,7 +15,7 @@ use Rattle.index_sorts.specs.Entails.{AllHold, Entails}
 use Rattle.proof_lines.specs.declared.line.Line.{Line}
 use Rattle.proof_lines.specs.declared.line.Line.TheVariants.{Hyp, Goal, Comb, Cut}
 use Rattle.proof_lines.specs.Rows.{opposite_of, combination_of, floor_over, remainder, is_multiple, divides, divided_term, cut_of, IsRefutation}
-use Rattle.proof_lines.specs.Lines.{IsCombination, IsCut, LineGives, LinesGive, EndsRefuted, LinesProve}
+use Rattle.proof_lines.specs.Lines.{LineGives, LinesGive, LinesProve}
 use Rattle.proof_lines.proofs.Proper.{both}
 
 -- ---- values

@@ -1,5 +1,5 @@
 -- How far the cells of a row have come, one term after another.
-use Rattle.std.proofs.Common.{◌≡◌, ℕ, zero, suc, ◌+◌, ◌-◌, ◌<◌, ◌≤◌, ℤ, pos, true, false, nat_lt, List, [], ◌∷◌, ◌++◌, length, take, drop, set, replicate, get_or, Some, slice_get, refl, sym, ◌∙◌, ap, subst, arith}
+use Rattle.std.proofs.Common.{◌≡◌, ℕ, zero, suc, ◌+◌, ◌-◌, ◌<◌, ◌≤◌, ℤ, pos, true, nat_lt, List, [], ◌∷◌, ◌++◌, length, take, drop, set, replicate, get_or, Some, slice_get, refl, sym, ◌∙◌, ap, subst, arith}
 use Rattle.std.proofs.lemmas.List.{take_more, take_all, drop_more, take-append-drop}
 use Rattle.xan_lin.specs.Terms.{IsRising, coefficient_of, no_term}
 use Rattle.xan_lin.specs.Linear.{Linear}

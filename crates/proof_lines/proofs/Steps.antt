@@ -1,7 +1,6 @@
 -- What a combination and a cut give in cells is what they give.
-use Rattle.std.proofs.Common.{◌≡◌, ℕ, zero, suc, ◌-◌, ◌^◌, ◌<◌, ◌≤◌, ℤ, pos, ◌&&◌, Bool, true, false, cond, nat_lt, int_lt, List, [], ◌∷◌, ◌++◌, length, take, get_or, map, Option, Some, None, option_map, slice_get, Result, Ok, Err, refl, sym, ◌∙◌, ap, subst, arith}
+use Rattle.std.proofs.Common.{◌≡◌, ℕ, zero, suc, ◌-◌, ◌≤◌, ℤ, pos, ◌&&◌, Bool, true, false, cond, nat_lt, int_lt, List, [], ◌∷◌, length, take, get_or, map, Option, Some, None, option_map, slice_get, Result, Ok, Err, refl, sym, ◌∙◌, ap, subst, arith}
 use Rattle.std.specs.List.{list_all}
-use Rattle.std.specs.Ordering.{int_eq}
 use Rattle.std.proofs.lemmas.Bool.Decides.{nat_tests, Decides-int_eq}
 use Rattle.std.proofs.lemmas.Option.{slice_get-map}
 use Rattle.xan_lin.specs.Terms.{IsRising}
@@ -13,12 +12,12 @@ use Rattle.proof_lines.specs.declared.line.Line.TheVariants.{Hyp, Goal, Comb, Cu
 use Rattle.proof_lines.specs.declared.bad_line.Why.{Why}
 use Rattle.proof_lines.specs.declared.bad_line.Why.TheVariants as why
 use Rattle.proof_lines.specs.Rows.{opposite_of, combination_of, cut_of, floor_over, is_multiple, divides, is_refutation}
-use Rattle.proof_lines.specs.Variables.{with_terms, variables}
+use Rattle.proof_lines.specs.Variables.{with_terms}
 use Rattle.proof_lines.specs.Check.{is_listed, with_row, bounded, is_positive, row_given, ends_refuted}
 use Rattle.proof_lines.specs.Cells.{AreDifferent, dense, IsProper, AreProper, Stands, combined_cells, is_zero, with_cells, small_cells, combination_cells, cut_cells, cannot_hold, last_cannot_hold, GivesRow, Gives}
 use Rattle.proof_lines.proofs.Proper.{both, with_terms-placed, proper-at, proper-combination, proper-cut}
 use Rattle.proof_lines.proofs.Quotients.{multiple-zero, cut-small, cells-cut, cells-combination}
-use Rattle.proof_lines.proofs.Tests.{columns-pass, cells-pass, dense-constant}
+use Rattle.proof_lines.proofs.Passing.{columns-pass, cells-pass, dense-constant}
 
 abbrev answers : Type 0
 answers = Result Linear Why

@@ -1,5 +1,5 @@
 -- How rows lie in cells: a column for each variable that has come, some columns of 0, and the constant.
-use Rattle.std.specs.Prelude.{◌≡◌, ℕ, zero, suc, ◌-◌, ◌≤◌, ℤ, pos, ◌+ℤ◌, ◌*ℤ◌, Bool, false, true, ◌&&◌, IsTrue, List, [], ◌∷◌, length, map, take, int_lt, Option, Some, None, slice_get, Result, Ok, Err, if◌then◌else◌}
+use Rattle.std.specs.Prelude.{◌≡◌, ℕ, zero, suc, ◌-◌, ◌≤◌, ℤ, pos, ◌+ℤ◌, ◌*ℤ◌, Bool, false, true, ◌&&◌, List, [], ◌∷◌, length, map, take, int_lt, Option, Some, None, slice_get, Result, Ok, Err, if◌then◌else◌}
 use Rattle.std.specs.List.{list_all, slice_index_or}
 use Rattle.std.specs.Ordering.{int_eq}
 use Rattle.xan_lin.specs.Terms.{IsRising, coefficient_of}

@@ -1,5 +1,5 @@
 -- The first bad line and its first reason, as a function.
-use Rattle.std.specs.Prelude.{◌≡◌, ℕ, suc, ℤ, pos, Bool, true, false, ◌&&◌, List, [], ◌∷◌, ◌++◌, length, nat_lt, int_le, Option, Some, None, slice_get, Result, Ok, Err, ◌==◌, if◌then◌else◌}
+use Rattle.std.specs.Prelude.{ℕ, suc, ℤ, pos, Bool, false, ◌&&◌, List, [], ◌∷◌, ◌++◌, length, nat_lt, int_le, Option, Some, None, slice_get, Result, Ok, Err, if◌then◌else◌}
 use Rattle.std.specs.List.{list_any}
 use Rattle.xan_lin.specs.Linear.{Linear, are_within}
 use Rattle.index_sorts.specs.Known.{same_form}

@@ -1,7 +1,7 @@
 -- How lines are spelled, as in `by h +1v1+0;g;c 1 0 1 1`.
 use Rattle.std.specs.Prelude.{◌≡◌, ℕ, ◌-◌, ◌≤◌, ℤ, List, [], ◌∷◌, ◌++◌, length, codes, decimal}
 use Rattle.std.specs.Fmt.{signed_decimal}
-use Rattle.xan_lin.specs.Linear.{Linear, IsForm}
+use Rattle.xan_lin.specs.Linear.{IsForm}
 use Rattle.xan_lin.specs.Text.{form_text}
 use Rattle.xan_lin.specs.declared.term.Term.{Term}
 use Rattle.xan_read.specs.Reader.{IsLongest}

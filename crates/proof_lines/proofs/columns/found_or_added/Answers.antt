@@ -1,4 +1,4 @@
-use Rattle.std.proofs.Common.{◌≡◌, subst, ◌<◌, ◌≤◌, ◌++◌, ◌∷◌, [], Some, None, nat_lt, length, true, slice_get, sym, ap, ◌∙◌, arith}
+use Rattle.std.proofs.Common.{◌≡◌, subst, ◌<◌, ◌≤◌, ◌++◌, ◌∷◌, [], length, slice_get, sym, ap, ◌∙◌, arith}
 use Rattle.std.specs.List.{position}
 use Rattle.std.specs.Bool.{◌==◌}
 use Rattle.std.proofs.lemmas.Option.{slice_get_within}
