@@ -1,11 +1,9 @@
 -- The coefficient of a variable in sums, multiples and quotients of terms.
-use Rattle.std.proofs.Common.{◌≡◌, ◌≢◌, ℕ, zero, suc, ◌<◌, ◌≤◌, ℤ, pos, negsuc, ◌+ℤ◌, ◌*ℤ◌, ◌==◌, Bool, true, false, cond, List, [], ◌∷◌, ◌++◌, map, refl, sym, ◌∙◌, ap, arith}
-use Rattle.std.specs.Int.{int_div_euclid}
-use Rattle.std.proofs.lemmas.Int.{ints}
+use Rattle.std.proofs.Common.{◌≡◌, ℕ, zero, suc, ◌<◌, ◌≤◌, ℤ, pos, negsuc, ◌+ℤ◌, ◌*ℤ◌, ◌==◌, Bool, true, false, cond, List, [], ◌∷◌, ◌++◌, refl, sym, ◌∙◌, ap, arith}
 use Rattle.std.proofs.lemmas.Bool.Decides.{nat_tests}
-use Rattle.xan_lin.specs.Terms.{IsRising, with_multiple, plus_term, sum_terms, scaled_terms, negated_terms, coefficient_of}
+use Rattle.xan_lin.specs.Terms.{IsRising, with_multiple, plus_term, sum_terms, scaled_terms, coefficient_of}
 use Rattle.xan_lin.specs.declared.term.Term.{Term}
-use Rattle.xan_lin.proofs.Ring.{add_none, add-mul, zero-mul, add_assoc_ℤ, add_turn, zero-add_ℤ}
+use Rattle.xan_lin.proofs.Ring.{add-mul, zero-mul, add_assoc_ℤ, add_turn, zero-add_ℤ}
 use Rattle.xan_lin.proofs.Sums.{Lt, Gt, Eq, order, plus-front, plus-behind, plus-same}
 
 pub coefficient-none : (v : ℕ) → coefficient_of v [] ≡ pos 0

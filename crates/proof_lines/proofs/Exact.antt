@@ -1,6 +1,5 @@
 -- The check answers Ok exactly where the lines prove the goal.
-use Rattle.std.proofs.Common.{◌≡◌, ℕ, zero, suc, ◌+◌, ◌-◌, ◌<◌, ◌≤◌, ℤ, pos, ◌≤ℤ◌, ◌<ℤ◌, ◌&&◌, ◌⊎◌, inl, inr, Bool, true, false, cond, nat_lt, int_lt, int_le, IsTrue, IsOk, List, [], ◌∷◌, ◌++◌, length, get_or, Option, Some, None, slice_get, Result, Ok, Err, Contains, Decides, refl, sym, ◌∙◌, ap, subst, arith}
-use Rattle.std.specs.List.{list_any}
+use Rattle.std.proofs.Common.{◌≡◌, ℕ, suc, ◌≤◌, ℤ, pos, ◌≤ℤ◌, ◌<ℤ◌, ◌&&◌, Bool, true, false, cond, nat_lt, int_lt, IsOk, List, [], ◌∷◌, ◌++◌, length, get_or, Option, Some, None, slice_get, Result, Ok, Err, Contains, refl, sym, ◌∙◌, ap, subst, arith}
 use Rattle.std.proofs.lemmas.Int.{ints}
 use Rattle.std.proofs.lemmas.Bool.Decides.{nat_tests}
 use Rattle.std.proofs.lemmas.List.{append_assoc, append-nil}
@@ -17,7 +16,7 @@ use Rattle.proof_lines.specs.declared.bad_line.BadLine.{BadLine}
 use Rattle.proof_lines.specs.declared.bad_line.Why.TheVariants as why
 use Rattle.proof_lines.specs.Rows.{opposite_of, combination_of, cut_of, divides, IsRefutation, is_refutation}
 use Rattle.proof_lines.specs.Variables.{with_terms, with_rows, variables}
-use Rattle.proof_lines.specs.Lines.{IsCombination, IsCut, LineGives, IsSmall, LinesGive, EndsRefuted, LinesProve}
+use Rattle.proof_lines.specs.Lines.{LineGives, IsSmall, LinesGive, EndsRefuted, LinesProve}
 use Rattle.proof_lines.specs.Check.{is_listed, with_row, bounded, is_positive, row_given, ends_refuted, goes_on, checked_from, checked}
 use Rattle.proof_lines.proofs.Growing.{with_rows-push, length-with_terms}
 use Rattle.proof_lines.proofs.Proper.{both, join}
@@ -85,9 +84,9 @@ given_from hyps goal rows seen Goal row h =
     record { gives = sym b.same; small = b.small; few = b.few }
 given_from hyps goal rows seen (Comb left_by left right_by right) row h =
     let x = at_row (slice_get rows left) (λ x. with_row (slice_get rows right) (λ y.
-      cond (is_positive left_by && is_positive right_by) (bounded seen (combination_of left_by x right_by y)) (Err why.Multiplier))) row h in
+    cond (is_positive left_by && is_positive right_by) (bounded seen (combination_of left_by x right_by y)) (Err why.Multiplier))) row h in
     let y = at_row (slice_get rows right) (λ y.
-      cond (is_positive left_by && is_positive right_by) (bounded seen (combination_of left_by x.element right_by y)) (Err why.Multiplier)) row x.then_is in
+    cond (is_positive left_by && is_positive right_by) (bounded seen (combination_of left_by x.element right_by y)) (Err why.Multiplier)) row x.then_is in
     let c = chosen (is_positive left_by && is_positive right_by) (bounded seen (combination_of left_by x.element right_by y.element)) why.Multiplier row y.then_is in
     let positive = both (is_positive left_by) (is_positive right_by) c.0 in
     let b = bounded_from seen (combination_of left_by x.element right_by y.element) row c.1 in
@@ -106,7 +105,7 @@ given_from hyps goal rows seen (Comb left_by left right_by right) row h =
     }
 given_from hyps goal rows seen (Cut from by) row h =
     let x = at_row (slice_get rows from) (λ x.
-      cond (is_positive by) (cond (divides by x.terms) (bounded seen (cut_of x by)) (Err why.NotDivisible)) (Err why.Multiplier)) row h in
+    cond (is_positive by) (cond (divides by x.terms) (bounded seen (cut_of x by)) (Err why.NotDivisible)) (Err why.Multiplier)) row h in
     let c = chosen (is_positive by) (cond (divides by x.element.terms) (bounded seen (cut_of x.element by)) (Err why.NotDivisible)) why.Multiplier row x.then_is in
     let d = chosen (divides by x.element.terms) (bounded seen (cut_of x.element by)) why.NotDivisible row c.1 in
     let b = bounded_from seen (cut_of x.element by) row d.1 in
@@ -138,7 +137,7 @@ given_to hyps goal rows seen (Comb left_by left right_by right) row g small few 
     ap (λ found. with_row found (λ x. with_row (slice_get rows right) (λ y. answer x y))) g.left_is
     ∙ ap (λ found. with_row found (λ y. answer g.left_row y)) g.right_is
     ∙ choose (is_positive left_by && is_positive right_by) (bounded seen (combination_of left_by g.left_row right_by g.right_row)) why.Multiplier
-      (join (is_positive left_by) (is_positive right_by) (is_at_least_one left_by g.left_positive) (is_at_least_one right_by g.right_positive))
+    (join (is_positive left_by) (is_positive right_by) (is_at_least_one left_by g.left_positive) (is_at_least_one right_by g.right_positive))
     ∙ as_given seen (combination_of left_by g.left_row right_by g.right_row) row g.row_is small few
 given_to hyps goal rows seen (Cut from by) row g small few =
     ap (λ found. with_row found (λ x. cond (is_positive by) (cond (divides by x.terms) (bounded seen (cut_of x by)) (Err why.NotDivisible)) (Err why.Multiplier))) g.from_is
@@ -156,6 +155,7 @@ refutation_from row e =
     none : (ts : List Term) → no_terms ts ≡ true → ts ≡ []
     none [] e = refl
     none (t ∷ ts) e = cc
+
     below : (c : ℤ) → int_lt c (pos 0) ≡ true → c <ℤ pos 0
     below c e = grind (arith, ints)
 

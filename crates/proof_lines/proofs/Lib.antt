@@ -7,10 +7,15 @@ pub mod Spreading
 pub mod Combining
 pub mod Opposites
 pub mod Lasts
-pub mod Tests
+pub mod Passing
 pub mod Proper
 pub mod Quotients
 pub mod Steps
 pub mod Walking
 pub mod Exact
 pub mod Soundness
+pub mod Readers
+pub mod Forms
+pub mod FormLoop
+pub mod LineTexts
+pub mod Fronts

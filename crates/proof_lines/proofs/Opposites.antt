@@ -1,5 +1,5 @@
 -- The row that holds where the goal does not, as a form and as a row.
-use Rattle.std.proofs.Common.{◌≡◌, ℕ, ◌≤◌, ◌-ℤ◌, pos, neg_ℤ, Bool, true, false, cond, nat_lt, ◌^◌, List, length, Result, Ok, Err, sym, ◌∙◌, ap, subst}
+use Rattle.std.proofs.Common.{◌≡◌, ℕ, ◌-ℤ◌, pos, neg_ℤ, Bool, true, false, cond, nat_lt, List, length, Result, Ok, Err, sym, ◌∙◌, ap, subst}
 use Rattle.xan_lin.specs.Linear.{Linear, are_within, sized, negated_row_of}
 use Rattle.xan_lin.specs.Terms.{negated_terms}
 use Rattle.xan_lin.specs.declared.term.Term.{Term}

@@ -1,12 +1,9 @@
 -- Rows whose variables have columns: with more columns, and what is made of them.
-use Rattle.std.proofs.Common.{◌≡◌, ◌≢◌, ℕ, zero, suc, ◌+◌, ◌*◌, ◌-◌, ◌/◌, ◌%◌, ◌<◌, ◌≤◌, ℤ, pos, negsuc, ◌+ℤ◌, ◌*ℤ◌, ◌&&◌, ◌||◌, ◌==◌, Bool, true, false, cond, IsTrue, int_le, List, [], ◌∷◌, ◌++◌, length, map, Some, slice_get, refl, sym, ◌∙◌, ap, subst, arith}
-use Rattle.std.specs.List.{list_all, list_any}
-use Rattle.std.specs.Int.{int_div_euclid, int_rem_euclid}
+use Rattle.std.proofs.Common.{◌≡◌, ◌≢◌, ℕ, zero, suc, ◌*◌, ◌/◌, ◌%◌, ◌<◌, ◌≤◌, ℤ, pos, negsuc, ◌+ℤ◌, ◌*ℤ◌, ◌&&◌, ◌||◌, ◌==◌, Bool, true, false, cond, List, [], ◌∷◌, ◌++◌, length, map, Some, slice_get, refl, sym, ◌∙◌, ap, subst, arith}
 use Rattle.std.proofs.lemmas.Int.{ints}
-use Rattle.std.proofs.lemmas.Bool.Decides.{nat_tests, Decides-int_eq}
-use Rattle.std.proofs.lemmas.List.{length-append}
+use Rattle.std.proofs.lemmas.Bool.Decides.{Decides-int_eq}
 use Rattle.std.proofs.lemmas.List.Folds.{list_any-append}
-use Rattle.xan_lin.specs.Terms.{IsRising, with_multiple, plus_term, sum_terms, scaled_terms, negated_terms, coefficient_of}
+use Rattle.xan_lin.specs.Terms.{IsRising, with_multiple, plus_term, sum_terms, scaled_terms, coefficient_of}
 use Rattle.xan_lin.specs.Linear.{Linear}
 use Rattle.xan_lin.specs.declared.term.Term.{Term}
 use Rattle.xan_lin.proofs.Sums.{Lt, Gt, Eq, order, plus-front, plus-behind, plus-same, IsRising-sum}
@@ -15,7 +12,7 @@ use Rattle.proof_lines.specs.Rows.{combination_of, floor_over, is_multiple, divi
 use Rattle.proof_lines.specs.Variables.{is_among, with_variable, with_terms}
 use Rattle.proof_lines.specs.Check.{is_positive}
 use Rattle.proof_lines.specs.Cells.{dense, are_among, IsProper, AreProper}
-use Rattle.proof_lines.proofs.Different.{with_variable-among, with_variable-new, equals_itself, same_number}
+use Rattle.proof_lines.proofs.Different.{with_variable-among, equals_itself, same_number}
 use Rattle.proof_lines.proofs.Growing.{with_terms-none, with_terms-cons, length-with_terms}
 use Rattle.proof_lines.proofs.Coefficients.{coefficient-none, coefficient-other}
 use Rattle.proof_lines.proofs.Dense.{dense-with}
@@ -185,6 +182,7 @@ quotient-nonzero (pos a) (pos b) m h n e =
   where
     above : (a b : ℕ) → is_positive (pos b) ≡ true → 0 < b
     above a b h = grind (arith, ints)
+
     vanishes : (a b : ℕ) → 0 < b → pos (a % b) ≡ pos 0 → pos (a / b) ≡ pos 0 → a ≡ 0
     vanishes a b h d e =
         let r : a % b ≡ 0 = cc in

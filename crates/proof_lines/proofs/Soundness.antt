@@ -1,13 +1,12 @@
 -- What lines prove is entailed: each row holds where the hypotheses do and the goal does not, and the last one cannot.
-use Rattle.std.proofs.Common.{◌≡◌, ℕ, zero, suc, ◌+◌, ◌*◌, ◌-◌, ◌/◌, ◌%◌, ◌<◌, ◌≤◌, ℤ, pos, negsuc, ◌+ℤ◌, ◌-ℤ◌, ◌*ℤ◌, neg_ℤ, ◌≤ℤ◌, ◌<ℤ◌, ◌&&◌, Bool, true, false, List, [], ◌∷◌, ◌++◌, length, map, get_or, Some, slice_get, All, Contains, refl, sym, ◌∙◌, ap, subst, arith}
-use Rattle.std.specs.List.{list_all}
+use Rattle.std.proofs.Common.{◌≡◌, ℕ, ◌*◌, ◌<◌, ℤ, pos, negsuc, ◌+ℤ◌, ◌-ℤ◌, ◌*ℤ◌, neg_ℤ, ◌≤ℤ◌, ◌<ℤ◌, true, List, [], ◌∷◌, ◌++◌, map, Some, slice_get, Contains, sym, ◌∙◌, ap, subst, arith}
 use Rattle.std.proofs.lemmas.Int.{ints, by_lt_z}
-use Rattle.std.proofs.lemmas.Bool.Decides.{nat_tests, Decides-int_eq}
+use Rattle.std.proofs.lemmas.Bool.Decides.{Decides-int_eq}
 use Rattle.std.proofs.lemmas.List.{append_assoc, append-nil}
 use Rattle.std.proofs.lemmas.List.Elements.{All-contains, All-push, Contains-push}
 use Rattle.std.proofs.lemmas.Option.{slice_get_within, get_or_from_slice_get}
 use Rattle.xan_lin.specs.Linear.{Linear}
-use Rattle.xan_lin.specs.Terms.{scaled_terms, negated_terms}
+use Rattle.xan_lin.specs.Terms.{scaled_terms}
 use Rattle.xan_lin.specs.Value.{value_at, value_of_terms, value_of, Holds}
 use Rattle.xan_lin.specs.declared.term.Term.{Term}
 use Rattle.xan_lin.proofs.Ring.{add-mul, mul_comm, mul_assoc, zero-mul, add_pairs, neg_less}
@@ -16,7 +15,7 @@ use Rattle.index_sorts.specs.Entails.{AllHold, Entails}
 use Rattle.proof_lines.specs.declared.line.Line.{Line}
 use Rattle.proof_lines.specs.declared.line.Line.TheVariants.{Hyp, Goal, Comb, Cut}
 use Rattle.proof_lines.specs.Rows.{opposite_of, combination_of, floor_over, remainder, is_multiple, divides, divided_term, cut_of, IsRefutation}
-use Rattle.proof_lines.specs.Lines.{IsCombination, IsCut, LineGives, LinesGive, EndsRefuted, LinesProve}
+use Rattle.proof_lines.specs.Lines.{LineGives, LinesGive, LinesProve}
 use Rattle.proof_lines.proofs.Proper.{both}
 
 -- ---- values
@@ -156,7 +155,7 @@ pub proved-entailed : (hyps : List Linear) (goal : Linear) (lines : List Line) �
 proved-entailed hyps goal lines p = record {
   follows = λ values all. by_lt_z (value_of values goal) (pos 0)
       (λ fails. (let holds = rows_hold values hyps goal [] lines p.rows all fails (λ k d h. absurd (omega arith)) p.given in
-        let last = All-contains (Holds values) p.rows p.ends.last holds (subst (λ (rs : List Linear). Contains rs p.ends.last) (sym p.ends.rows_are) (Contains-push p.ends.before p.ends.last)) in
-        absurd (cannot values p.ends.last p.ends.refuted last)))
+      let last = All-contains (Holds values) p.rows p.ends.last holds (subst (λ (rs : List Linear). Contains rs p.ends.last) (sym p.ends.rows_are) (Contains-push p.ends.before p.ends.last)) in
+      absurd (cannot values p.ends.last p.ends.refuted last)))
       (λ holds. holds);
 }

@@ -1,5 +1,5 @@
 -- How far the cells of a row have come, one term after another.
-use Rattle.std.proofs.Common.{◌≡◌, ℕ, zero, suc, ◌+◌, ◌-◌, ◌<◌, ◌≤◌, ℤ, pos, true, false, nat_lt, List, [], ◌∷◌, ◌++◌, length, take, drop, set, replicate, get_or, Some, slice_get, refl, sym, ◌∙◌, ap, subst, arith}
+use Rattle.std.proofs.Common.{◌≡◌, ℕ, zero, suc, ◌+◌, ◌-◌, ◌<◌, ◌≤◌, ℤ, pos, true, nat_lt, List, [], ◌∷◌, ◌++◌, length, take, drop, set, replicate, get_or, Some, slice_get, refl, sym, ◌∙◌, ap, subst, arith}
 use Rattle.std.proofs.lemmas.List.{take_more, take_all, drop_more, take-append-drop}
 use Rattle.xan_lin.specs.Terms.{IsRising, coefficient_of, no_term}
 use Rattle.xan_lin.specs.Linear.{Linear}
@@ -84,6 +84,7 @@ pub spreads_all : (before columns : List ℕ) (cells : List ℤ) (terms : List T
     → Spreading before columns cells terms constant at → length terms ≤ at
     → (columns ≡ with_terms before terms) × (cells ≡ dense columns (record { terms = terms; constant = constant }))
 spreads_all before columns cells terms constant at s h =
-    let all : take at terms ≡ terms = take_all at terms h in
-    (s.columns_are ∙ ap (λ ts. with_terms before ts) all,
-    s.cells_are ∙ ap (λ ts. let row : Linear = record { terms = ts; constant = constant } in dense columns row) all)
+    let all : take at terms ≡ terms = take_all at terms h in (
+      s.columns_are ∙ ap (λ ts. with_terms before ts) all,
+      s.cells_are ∙ ap (λ ts. let row : Linear = record { terms = ts; constant = constant } in dense columns row) all,
+    )

@@ -1,7 +1,6 @@
 -- What a combination and a cut give in cells is what they give.
-use Rattle.std.proofs.Common.{◌≡◌, ℕ, zero, suc, ◌-◌, ◌^◌, ◌<◌, ◌≤◌, ℤ, pos, ◌&&◌, Bool, true, false, cond, nat_lt, int_lt, List, [], ◌∷◌, ◌++◌, length, take, get_or, map, Option, Some, None, option_map, slice_get, Result, Ok, Err, refl, sym, ◌∙◌, ap, subst, arith}
+use Rattle.std.proofs.Common.{◌≡◌, ℕ, zero, suc, ◌-◌, ◌≤◌, ℤ, pos, ◌&&◌, Bool, true, false, cond, nat_lt, int_lt, List, [], ◌∷◌, length, take, get_or, map, Option, Some, None, option_map, slice_get, Result, Ok, Err, refl, sym, ◌∙◌, ap, subst, arith}
 use Rattle.std.specs.List.{list_all}
-use Rattle.std.specs.Ordering.{int_eq}
 use Rattle.std.proofs.lemmas.Bool.Decides.{nat_tests, Decides-int_eq}
 use Rattle.std.proofs.lemmas.Option.{slice_get-map}
 use Rattle.xan_lin.specs.Terms.{IsRising}
@@ -13,12 +12,12 @@ use Rattle.proof_lines.specs.declared.line.Line.TheVariants.{Hyp, Goal, Comb, Cu
 use Rattle.proof_lines.specs.declared.bad_line.Why.{Why}
 use Rattle.proof_lines.specs.declared.bad_line.Why.TheVariants as why
 use Rattle.proof_lines.specs.Rows.{opposite_of, combination_of, cut_of, floor_over, is_multiple, divides, is_refutation}
-use Rattle.proof_lines.specs.Variables.{with_terms, variables}
+use Rattle.proof_lines.specs.Variables.{with_terms}
 use Rattle.proof_lines.specs.Check.{is_listed, with_row, bounded, is_positive, row_given, ends_refuted}
 use Rattle.proof_lines.specs.Cells.{AreDifferent, dense, IsProper, AreProper, Stands, combined_cells, is_zero, with_cells, small_cells, combination_cells, cut_cells, cannot_hold, last_cannot_hold, GivesRow, Gives}
 use Rattle.proof_lines.proofs.Proper.{both, with_terms-placed, proper-at, proper-combination, proper-cut}
 use Rattle.proof_lines.proofs.Quotients.{multiple-zero, cut-small, cells-cut, cells-combination}
-use Rattle.proof_lines.proofs.Tests.{columns-pass, cells-pass, dense-constant}
+use Rattle.proof_lines.proofs.Passing.{columns-pass, cells-pass, dense-constant}
 
 abbrev answers : Type 0
 answers = Result Linear Why
@@ -65,7 +64,7 @@ gives_small columns cells row is p few different =
 
 gives_sum : (columns : List ℕ) (a b : ℤ) (x y : Linear) (positive : Bool) → IsProper columns x → IsProper columns y → length columns ≤ 64 → AreDifferent columns
     → Gives columns columns (cond positive (small_cells (combined_cells a (dense columns x) b (dense columns y))) (Err why.Multiplier))
-        (cond positive (bounded columns (combination_of a x b y)) (Err why.Multiplier))
+    (cond positive (bounded columns (combination_of a x b y)) (Err why.Multiplier))
 gives_sum columns a b x y true p q few different =
     gives_small columns (combined_cells a (dense columns x) b (dense columns y)) (combination_of a x b y) (cells-combination columns (64 - length columns) a b x y)
     (proper-combination columns a b x y p q) few different
@@ -74,9 +73,9 @@ gives_sum columns a b x y false p q few different = refl
 combine : (columns : List ℕ) (rows : List Linear) (a b : ℤ) (i j : ℕ) (ox oy : Option Linear) → AreProper columns rows → length columns ≤ 64 → AreDifferent columns
     → slice_get rows i ≡ ox → slice_get rows j ≡ oy
     → Gives columns columns
-        (with_cells (option_map (dense columns) ox) (λ x. with_cells (option_map (dense columns) oy) (λ y.
-          cond (is_positive a && is_positive b) (small_cells (combined_cells a x b y)) (Err why.Multiplier))))
-        (with_row ox (λ x. with_row oy (λ y. cond (is_positive a && is_positive b) (bounded columns (combination_of a x b y)) (Err why.Multiplier))))
+    (with_cells (option_map (dense columns) ox) (λ x. with_cells (option_map (dense columns) oy) (λ y.
+    cond (is_positive a && is_positive b) (small_cells (combined_cells a x b y)) (Err why.Multiplier))))
+    (with_row ox (λ x. with_row oy (λ y. cond (is_positive a && is_positive b) (bounded columns (combination_of a x b y)) (Err why.Multiplier))))
 combine columns rows a b i j None oy p few different e f = refl
 combine columns rows a b i j (Some x) None p few different e f = refl
 combine columns rows a b i j (Some x) (Some y) p few different e f =
@@ -92,8 +91,8 @@ pub gives_combination : (hyps : List Linear) (goal : Linear) (columns : List ℕ
 unfolding row_given
 gives_combination hyps goal columns cells rows a b i j s few different =
     let P : Option (List ℤ) → Option (List ℤ) → Type 0 = λ ox oy. Gives columns columns
-        (with_cells ox (λ x. with_cells oy (λ y. cond (is_positive a && is_positive b) (small_cells (combined_cells a x b y)) (Err why.Multiplier))))
-        (with_row (slice_get rows i) (λ x. with_row (slice_get rows j) (λ y. cond (is_positive a && is_positive b) (bounded columns (combination_of a x b y)) (Err why.Multiplier)))) in
+    (with_cells ox (λ x. with_cells oy (λ y. cond (is_positive a && is_positive b) (small_cells (combined_cells a x b y)) (Err why.Multiplier))))
+    (with_row (slice_get rows i) (λ x. with_row (slice_get rows j) (λ y. cond (is_positive a && is_positive b) (bounded columns (combination_of a x b y)) (Err why.Multiplier)))) in
     subst (λ (ox : Option (List ℤ)). P ox (slice_get cells j)) (sym (at_place columns cells rows i s.cells_are))
     (subst (λ (oy : Option (List ℤ)). P (option_map (dense columns) (slice_get rows i)) oy) (sym (at_place columns cells rows j s.cells_are))
     (combine columns rows a b i j (slice_get rows i) (slice_get rows j) s.proper few different refl refl))
@@ -112,7 +111,7 @@ small_at (row ∷ rows) (suc i) x h e =
 gives_quotient : (columns : List ℕ) (x : Linear) (by : ℤ) (divided : Bool) → IsProper columns x → are_within x.terms x.constant ≡ true → is_positive by ≡ true
     → divides by x.terms ≡ divided → length columns ≤ 64 → AreDifferent columns
     → Gives columns columns (cond divided (Ok (map (λ cell. floor_over cell by) (dense columns x))) (Err why.NotDivisible))
-        (cond divided (bounded columns (cut_of x by)) (Err why.NotDivisible))
+    (cond divided (bounded columns (cut_of x by)) (Err why.NotDivisible))
 gives_quotient columns x by true p w h d few different =
     subst (λ (xs : List ℤ). GivesRow columns columns xs (bounded columns (cut_of x by))) (sym (cells-cut columns (64 - length columns) x by h p.rising))
     (gives_proper columns (cut_of x by) (proper-cut columns x by h d p) few different (cut-small x by h w))
@@ -121,11 +120,11 @@ gives_quotient columns x by false p w h d few different = refl
 gives_divided : (columns : List ℕ) (x : Linear) (by : ℤ) (positive : Bool) → is_positive by ≡ positive → IsProper columns x → are_within x.terms x.constant ≡ true
     → length columns ≤ 64 → AreDifferent columns
     → Gives columns columns
-        (cond positive (cond (list_all (is_multiple by) (take 64 (dense columns x))) (Ok (map (λ cell. floor_over cell by) (dense columns x))) (Err why.NotDivisible)) (Err why.Multiplier))
-        (cond positive (cond (divides by x.terms) (bounded columns (cut_of x by)) (Err why.NotDivisible)) (Err why.Multiplier))
+    (cond positive (cond (list_all (is_multiple by) (take 64 (dense columns x))) (Ok (map (λ cell. floor_over cell by) (dense columns x))) (Err why.NotDivisible)) (Err why.Multiplier))
+    (cond positive (cond (divides by x.terms) (bounded columns (cut_of x by)) (Err why.NotDivisible)) (Err why.Multiplier))
 gives_divided columns x by true h p w few different =
     subst (λ (b : Bool). Gives columns columns (cond b (Ok (map (λ cell. floor_over cell by) (dense columns x))) (Err why.NotDivisible))
-        (cond (divides by x.terms) (bounded columns (cut_of x by)) (Err why.NotDivisible)))
+    (cond (divides by x.terms) (bounded columns (cut_of x by)) (Err why.NotDivisible)))
     (sym (columns-pass (is_multiple by) columns x (multiple-zero by h) few p))
     (gives_quotient columns x by (divides by x.terms) p w h refl few different)
 gives_divided columns x by false h p w few different = refl
@@ -133,9 +132,9 @@ gives_divided columns x by false h p w few different = refl
 divide : (columns : List ℕ) (rows : List Linear) (i : ℕ) (by : ℤ) (ox : Option Linear) → AreProper columns rows
     → list_all (λ row. are_within row.terms row.constant) rows ≡ true → length columns ≤ 64 → AreDifferent columns → slice_get rows i ≡ ox
     → Gives columns columns
-        (with_cells (option_map (dense columns) ox) (λ x. cond (is_positive by)
-          (cond (list_all (is_multiple by) (take 64 x)) (Ok (map (λ cell. floor_over cell by) x)) (Err why.NotDivisible)) (Err why.Multiplier)))
-        (with_row ox (λ x. cond (is_positive by) (cond (divides by x.terms) (bounded columns (cut_of x by)) (Err why.NotDivisible)) (Err why.Multiplier)))
+    (with_cells (option_map (dense columns) ox) (λ x. cond (is_positive by)
+    (cond (list_all (is_multiple by) (take 64 x)) (Ok (map (λ cell. floor_over cell by) x)) (Err why.NotDivisible)) (Err why.Multiplier)))
+    (with_row ox (λ x. cond (is_positive by) (cond (divides by x.terms) (bounded columns (cut_of x by)) (Err why.NotDivisible)) (Err why.Multiplier)))
 divide columns rows i by None p w few different e = refl
 divide columns rows i by (Some x) p w few different e =
     gives_divided columns x by (is_positive by) refl (proper-at columns rows i x p e) (small_at rows i x w e) few different
@@ -146,9 +145,9 @@ pub gives_cut : (hyps : List Linear) (goal : Linear) (columns : List ℕ) (cells
 unfolding row_given
 gives_cut hyps goal columns cells rows i by s few different =
     subst (λ (ox : Option (List ℤ)). Gives columns columns
-        (with_cells ox (λ x. cond (is_positive by)
-          (cond (list_all (is_multiple by) (take 64 x)) (Ok (map (λ cell. floor_over cell by) x)) (Err why.NotDivisible)) (Err why.Multiplier)))
-        (with_row (slice_get rows i) (λ x. cond (is_positive by) (cond (divides by x.terms) (bounded columns (cut_of x by)) (Err why.NotDivisible)) (Err why.Multiplier))))
+    (with_cells ox (λ x. cond (is_positive by)
+    (cond (list_all (is_multiple by) (take 64 x)) (Ok (map (λ cell. floor_over cell by) x)) (Err why.NotDivisible)) (Err why.Multiplier)))
+    (with_row (slice_get rows i) (λ x. cond (is_positive by) (cond (divides by x.terms) (bounded columns (cut_of x by)) (Err why.NotDivisible)) (Err why.Multiplier))))
     (sym (at_place columns cells rows i s.cells_are))
     (divide columns rows i by (slice_get rows i) s.proper s.small few different refl)
 

@@ -1,7 +1,7 @@
 -- How far the check has come, one line after another.
-use Rattle.std.proofs.Common.{◌≡◌, ℕ, suc, ◌+◌, ◌-◌, ◌<◌, ◌≤◌, ℤ, ◌&&◌, Bool, true, false, cond, List, [], ◌∷◌, ◌++◌, length, take, drop, get_or, map, Result, Ok, Err, refl, sym, ◌∙◌, ap, subst, arith}
+use Rattle.std.proofs.Common.{◌≡◌, ℕ, suc, ◌+◌, ◌-◌, ◌<◌, ◌≤◌, ℤ, ◌&&◌, Bool, true, cond, List, [], ◌∷◌, ◌++◌, length, drop, get_or, map, Result, Ok, Err, refl, sym, ◌∙◌, ap, subst, arith}
 use Rattle.std.specs.List.{list_all}
-use Rattle.std.proofs.Math.Seq.{take-append_seam, drop-append_seam}
+use Rattle.std.proofs.Math.Seq.{drop-append_seam}
 use Rattle.std.proofs.lemmas.List.{append_assoc, append-nil, length-append, map-append, drop_more, drop_all}
 use Rattle.std.proofs.lemmas.List.Folds.{list_all-append}
 use Rattle.xan_lin.specs.Linear.{Linear, are_within}
@@ -92,9 +92,9 @@ walks_more hyps goal lines before pool new_pool base columns after at line cells
       pool_is = change
           ∙ ap (λ p. let q : Pool = record p { rows = p.rows ++ cells ∷ [] } in q) w.pool_is
           ∙ ap (λ rows. let q : Pool = record before { rows = rows } in q)
-            (append_assoc before.rows (map (dense columns) w.rows) (cells ∷ [])
-            ∙ ap (λ rows. before.rows ++ rows) (ap (λ rows. rows ++ cells ∷ []) grown ∙ ap (λ c. map (dense after) w.rows ++ c ∷ []) g.cells_are
-            ∙ sym (map-append (dense after) w.rows (g.row ∷ []))));
+          (append_assoc before.rows (map (dense columns) w.rows) (cells ∷ [])
+          ∙ ap (λ rows. before.rows ++ rows) (ap (λ rows. rows ++ cells ∷ []) grown ∙ ap (λ c. map (dense after) w.rows ++ c ∷ []) g.cells_are
+          ∙ sym (map-append (dense after) w.rows (g.row ∷ []))));
       base_is = w.base_is;
       stands = record {
         columns_are = g.columns_are ∙ ap (λ vs. with_terms vs g.row.terms) w.stands.columns_are ∙ sym (with_rows-push [] w.rows g.row);

@@ -1,5 +1,5 @@
 -- How rows lie in cells: a column for each variable that has come, some columns of 0, and the constant.
-use Rattle.std.specs.Prelude.{◌≡◌, ℕ, zero, suc, ◌-◌, ◌≤◌, ℤ, pos, ◌+ℤ◌, ◌*ℤ◌, Bool, false, true, ◌&&◌, IsTrue, List, [], ◌∷◌, length, map, take, int_lt, Option, Some, None, slice_get, Result, Ok, Err, if◌then◌else◌}
+use Rattle.std.specs.Prelude.{◌≡◌, ℕ, zero, suc, ◌-◌, ◌≤◌, ℤ, pos, ◌+ℤ◌, ◌*ℤ◌, Bool, false, true, ◌&&◌, List, [], ◌∷◌, length, map, take, int_lt, Option, Some, None, slice_get, Result, Ok, Err, if◌then◌else◌}
 use Rattle.std.specs.List.{list_all, slice_index_or}
 use Rattle.std.specs.Ordering.{int_eq}
 use Rattle.xan_lin.specs.Terms.{IsRising, coefficient_of}
@@ -70,13 +70,13 @@ small_cells cells = if list_all is_within cells then Ok cells else Err why.TooLa
 abbrev pub combination_cells : List (List ℤ) → ℤ → ℕ → ℤ → ℕ → Result (List ℤ) Why
 combination_cells rows left_by left right_by right =
     with_cells (slice_get rows left) (λ x. with_cells (slice_get rows right) (λ y.
-      if is_positive left_by && is_positive right_by then small_cells (combined_cells left_by x right_by y) else Err why.Multiplier))
+    if is_positive left_by && is_positive right_by then small_cells (combined_cells left_by x right_by y) else Err why.Multiplier))
 
 -- what a cut gives behind these rows
 abbrev pub cut_cells : List (List ℤ) → ℕ → ℤ → Result (List ℤ) Why
 cut_cells rows from by =
     with_cells (slice_get rows from) (λ x.
-      if is_positive by then (if list_all (is_multiple by) (take 64 x) then Ok (map (λ cell. floor_over cell by) x) else Err why.NotDivisible) else Err why.Multiplier)
+    if is_positive by then (if list_all (is_multiple by) (take 64 x) then Ok (map (λ cell. floor_over cell by) x) else Err why.NotDivisible) else Err why.Multiplier)
 
 -- no variable, and a negative constant
 abbrev pub cannot_hold : List ℤ → Bool

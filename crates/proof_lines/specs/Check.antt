@@ -1,5 +1,5 @@
 -- The first bad line and its first reason, as a function.
-use Rattle.std.specs.Prelude.{◌≡◌, ℕ, suc, ℤ, pos, Bool, true, false, ◌&&◌, List, [], ◌∷◌, ◌++◌, length, nat_lt, int_le, Option, Some, None, slice_get, Result, Ok, Err, ◌==◌, if◌then◌else◌}
+use Rattle.std.specs.Prelude.{ℕ, suc, ℤ, pos, Bool, false, ◌&&◌, List, [], ◌∷◌, ◌++◌, length, nat_lt, int_le, Option, Some, None, slice_get, Result, Ok, Err, if◌then◌else◌}
 use Rattle.std.specs.List.{list_any}
 use Rattle.xan_lin.specs.Linear.{Linear, are_within}
 use Rattle.index_sorts.specs.Known.{same_form}
@@ -37,10 +37,10 @@ row_given hyps goal rows seen (Hyp e) = if is_listed e hyps then bounded seen e 
 row_given hyps goal rows seen Goal = bounded seen (opposite_of goal)
 row_given hyps goal rows seen (Comb left_by left right_by right) =
     with_row (slice_get rows left) (λ x. with_row (slice_get rows right) (λ y.
-      if is_positive left_by && is_positive right_by then bounded seen (combination_of left_by x right_by y) else Err why.Multiplier))
+    if is_positive left_by && is_positive right_by then bounded seen (combination_of left_by x right_by y) else Err why.Multiplier))
 row_given hyps goal rows seen (Cut from by) =
     with_row (slice_get rows from) (λ x.
-      if is_positive by then (if divides by x.terms then bounded seen (cut_of x by) else Err why.NotDivisible) else Err why.Multiplier)
+    if is_positive by then (if divides by x.terms then bounded seen (cut_of x by) else Err why.NotDivisible) else Err why.Multiplier)
 
 -- ---- all lines
 

@@ -4,3 +4,5 @@ pub mod Lines
 pub mod Check
 pub mod Cells
 pub mod Code
+pub mod Spelling
+pub mod Reading

@@ -27,7 +27,7 @@ pub(crate) fn spread(columns: &mut Columns, terms: &[Term], constant: &i64) -> O
     requires different { AreDifferent columns.old }
     ensures { MatchOption result (nat_lt 64 (length (with_terms columns.old terms.now)) ≡ true)
         (λ cells. (columns.new ≡ with_terms columns.old terms.now) × (length columns.new ≤ 64) × AreDifferent columns.new
-            × (cells.items ≡ dense columns.new (record { terms = terms.now; constant = constant.now }))) }
+        × (cells.items ≡ dense columns.new (record { terms = terms.now; constant = constant.now }))) }
 {
     let mut cells = [0i64; WIDTH];
     cells[MOST_COLUMNS] = *constant;
@@ -65,7 +65,9 @@ pub(crate) fn divides_coefficients(by: &i64, row: &[i64]) -> bool
     requires width { length row.now ≡ 65 }
     ensures { result ≡ list_all (is_multiple by.now) (take 64 row.now) }
 {
-    row[..MOST_COLUMNS].iter().all(|cell| number_divides(by, cell))
+    row[..MOST_COLUMNS]
+        .iter()
+        .all(|cell| number_divides(by, cell))
 }
 
 /// The floors of the numbers of the row over the divisor.

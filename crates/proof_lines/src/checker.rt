@@ -22,7 +22,12 @@ use xan_pool::{RowId, RowPool};
 ///
 /// `Ok` comes exactly where they do. Else the answer is the first bad line and the first reason that it has, in the order of [`Why`]. The
 /// pool lends the room for the rows of the lines, and is as before at the end. No memory is taken.
-pub fn check_lines(pool: &mut RowPool, ctx: &Context, goal: &Form, lines: &[Line]) -> Result<(), BadLine>
+pub fn check_lines(
+    pool: &mut RowPool,
+    ctx: &Context,
+    goal: &Form,
+    lines: &[Line],
+) -> Result<(), BadLine>
     requires width { pool.old.width ≡ 65 }
     requires countable { length lines.now < 2 ^ 32 }
     requires room { length pool.old.rows + length lines.now ≤ pool.old.capacity }
@@ -62,7 +67,12 @@ fn form_cells(columns: &mut Columns, form: &Form) -> Result<Cells, Why>
 }
 
 // The cells of a hypothesis.
-fn hypothesis_cells(hyps: &[Form], last: &mut usize, columns: &mut Columns, form: &Form) -> Result<Cells, Why>
+fn hypothesis_cells(
+    hyps: &[Form],
+    last: &mut usize,
+    columns: &mut Columns,
+    form: &Form,
+) -> Result<Cells, Why>
     requires few { length columns.old ≤ 64 }
     requires different { AreDifferent columns.old }
     ensures { Gives columns.old columns.new (cells_in result) (if is_listed form.now hyps.now then bounded columns.old form.now else Err why.NotInContext) }
@@ -86,7 +96,14 @@ fn opposite_cells(goal: &Form, columns: &mut Columns) -> Result<Cells, Why>
 }
 
 // The cells of the sum of two rows, each times a multiplier.
-fn combination_cells(pool: &RowPool, base: usize, left_by: &i64, left: u32, right_by: &i64, right: u32) -> Result<Cells, Why>
+fn combination_cells(
+    pool: &RowPool,
+    base: usize,
+    left_by: &i64,
+    left: u32,
+    right_by: &i64,
+    right: u32,
+) -> Result<Cells, Why>
     requires width { pool.now.width ≡ 65 }
     requires within { base ≤ length pool.now.rows }
     ensures { cells_in result ≡ combination_cells (drop base pool.now.rows) left_by.now left right_by.now right }
@@ -154,7 +171,12 @@ fn line_cells(
     match line {
         Line::Hyp(form) => hypothesis_cells(hyps, last, columns, form),
         Line::Goal => opposite_cells(goal, columns),
-        Line::Comb { left_by, left, right_by, right } => combination_cells(pool, base, left_by, *left, right_by, *right),
+        Line::Comb {
+            left_by,
+            left,
+            right_by,
+            right,
+        } => combination_cells(pool, base, left_by, *left, right_by, *right),
         Line::Cut { row, by } => cut_cells(pool, base, *row, by),
     }
 }
@@ -170,8 +192,13 @@ fn put(pool: &mut RowPool, cells: &Cells)
     };
 }
 
-// The check of the lines. It leaves their rows behind those of the pool.
-fn walk(pool: &mut RowPool, hyps: &[Form], goal: &Form, lines: &[Line]) -> Result<(), BadLine>
+/// The check of the lines over a list of rows. It leaves the rows of the lines behind those of the pool.
+pub(crate) fn walk(
+    pool: &mut RowPool,
+    hyps: &[Form],
+    goal: &Form,
+    lines: &[Line],
+) -> Result<(), BadLine>
     requires width { pool.old.width ≡ 65 }
     requires countable { length lines.now < 2 ^ 32 }
     requires room { length pool.old.rows + length lines.now ≤ pool.old.capacity }

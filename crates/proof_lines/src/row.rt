@@ -34,7 +34,12 @@ fn sum(left: &i128, right: &i128) -> i128
 }
 
 // The sum of two numbers, each times a multiplier of at least 1, where it is within the bound of forms.
-pub(crate) fn number_combination(left: &i64, left_by: &i64, right: &i64, right_by: &i64) -> Option<i64>
+pub(crate) fn number_combination(
+    left: &i64,
+    left_by: &i64,
+    right: &i64,
+    right_by: &i64,
+) -> Option<i64>
     requires left { IsTrue (is_positive left_by.now) }
     requires right { IsTrue (is_positive right_by.now) }
     ensures { MatchOption result (is_within ((left.now *ℤ left_by.now) +ℤ (right.now *ℤ right_by.now)) ≡ false)

@@ -1,4 +1,4 @@
-use Rattle.std.proofs.Common.{sym, ◌∙◌, arith}
+use Rattle.std.proofs.Common.{sym, ◌∙◌}
 use Rattle.proof_lines.proofs.Lasts.{last_is}
 use Rattle.proof_lines.proofs.checker.ends_refuted.Goals as goal
 

@@ -1,4 +1,4 @@
-use Rattle.std.proofs.Common.{◌≡◌, subst, ◌<◌, ◌≤◌, ◌++◌, ◌∷◌, [], Some, None, nat_lt, length, true, slice_get, sym, ap, ◌∙◌, arith}
+use Rattle.std.proofs.Common.{◌≡◌, subst, ◌<◌, ◌≤◌, ◌++◌, ◌∷◌, [], length, slice_get, sym, ap, ◌∙◌, arith}
 use Rattle.std.specs.List.{position}
 use Rattle.std.specs.Bool.{◌==◌}
 use Rattle.std.proofs.lemmas.Option.{slice_get_within}
@@ -28,9 +28,10 @@ returns-then-is_full-clause-found c =
 
 pub returns-clause-found : goal.returns-clause-found
 returns-clause-found c =
-    let few : length c.args.vars.now.items < 64 = below_full (length c.args.vars.now.items) (sym c.is_full.ensures.value ∙ c.if-is_full.false) c.is_full.ensures.fits in
-    (ap (λ xs. slice_get xs c.len-column.result) c.push.ensures.items ∙ ap (λ k. slice_get (c.args.vars.now.items ++ c.args.var ∷ []) k) c.len-column.ensures.value ∙ get-push c.args.vars.now.items c.args.var,
-    omega (arith, c.len-column.ensures.value))
+    let few : length c.args.vars.now.items < 64 = below_full (length c.args.vars.now.items) (sym c.is_full.ensures.value ∙ c.if-is_full.false) c.is_full.ensures.fits in (
+      ap (λ xs. slice_get xs c.len-column.result) c.push.ensures.items ∙ ap (λ k. slice_get (c.args.vars.now.items ++ c.args.var ∷ []) k) c.len-column.ensures.value ∙ get-push c.args.vars.now.items c.args.var,
+      omega (arith, c.len-column.ensures.value),
+    )
 
 pub returns-clause-variables : goal.returns-clause-variables
 returns-clause-variables c =

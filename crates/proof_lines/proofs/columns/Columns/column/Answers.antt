@@ -1,6 +1,4 @@
-use Rattle.std.proofs.Common.{refl, sym, ap, subst, ◌∙◌, arith, Some, slice_get}
-use Rattle.proof_lines.specs.Variables.{with_variable}
-use Rattle.proof_lines.specs.Cells.{AreDifferent}
+use Rattle.std.proofs.Common.{refl, sym, ◌∙◌}
 use Rattle.proof_lines.proofs.Different.{with_variable-where}
 use Rattle.proof_lines.proofs.columns.Columns.column.Goals as goal
 
