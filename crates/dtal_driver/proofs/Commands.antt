@@ -4,6 +4,7 @@ use Rattle.std.specs.Prelude.{option_map, IfOk, IfErr}
 use Rattle.std.specs.Io.KnownBytes.{append_known}
 use Rattle.xan_io.specs.declared.arg.Arg.{Arg}
 use Rattle.xan_io.specs.Entry.{EntryFault}
+use Rattle.xan_io.specs.Entry as fault
 use Rattle.xan_io.specs.Faults.{Rose}
 use Rattle.xan_io.specs.Outcome.{How, Outcome}
 use Rattle.xan_io.specs.Outcome as how
@@ -26,8 +27,8 @@ use Rattle.dtal_driver.specs.declared.answer.Answer.TheVariants as answer
 use Rattle.dtal_driver.specs.declared.run.End.{End}
 use Rattle.dtal_driver.specs.declared.run.End.TheVariants as ends
 use Rattle.dtal_driver.specs.Answers.{line_of, number_lines}
-use Rattle.dtal_driver.specs.Causes.{Accepts, IsRefusedText, Refuses, IsLoaded, IsFaulty, IsLoadedFrom, Tells, Cause, NoCommand, ReadFailed, Memory, Told, SaidAll, SaidPart, Says, Went, RunSaid}
-use Rattle.dtal_driver.specs.Report.{Report, plain, heap, depth, steps, end_of, how_of, answer_of, ended, unless_refused, unless_faulty, accepted_report, ReportsOf}
+use Rattle.dtal_driver.specs.Causes.{Accepts, IsRefusedText, Refuses, IsLoaded, IsFaulty, IsLoadedFrom, IsOfText, Tells, Cause, NoCommand, ReadFailed, Memory, Told, SaidAll, SaidPart, Says, Went, RunSaid}
+use Rattle.dtal_driver.specs.Report.{Report, plain, heap, depth, steps, end_of, how_of, answer_of, ended, unless_refused, fault_answer, unless_faulty, accepted_report, ReportsOf}
 use Rattle.dtal_driver.specs.Words.{Meant, Verify, Run, text_of}
 
 -- ---- a text
@@ -44,9 +45,9 @@ pub refuses-cause : (command : Meant) (content : List ℕ → Option (List ℕ))
     → Refuses (content (text_of command)) (reads (text_of command)) (reads' (text_of command)) said → Cause (Some command) content reads reads' (plain said)
 refuses-cause command content reads reads' answer.ReadFailed r = ReadFailed (record { command = command; is = refl; rose = r }) refl
 refuses-cause command content reads reads' answer.Memory r = Memory refl
-refuses-cause command content reads reads' answer.NotBuilt r = Told (record { command = command; is = refl; told = λ bytes here. inl (r bytes here, refl) })
+refuses-cause command content reads reads' answer.NotBuilt r = Told (record { command = command; is = refl; of_text = tt; told = λ bytes here. inl (r bytes here, refl) })
 refuses-cause command content reads reads' (answer.Refused at rule) r =
-    Told (record { command = command; is = refl; told = λ bytes here. inr (of_refused command bytes at rule (r bytes here)) })
+    Told (record { command = command; is = refl; of_text = tt; told = λ bytes here. inr (of_refused command bytes at rule (r bytes here)) })
 refuses-cause command content reads reads' answer.NoCommand r = absurd r
 refuses-cause command content reads reads' (answer.Accepted n) r = absurd r
 refuses-cause command content reads reads' answer.ArgCount r = absurd r
@@ -55,6 +56,21 @@ refuses-cause command content reads reads' (answer.ArgIndex n) r = absurd r
 refuses-cause command content reads reads' (answer.EntryRow n) r = absurd r
 refuses-cause command content reads reads' (answer.Returned word) r = absurd r
 refuses-cause command content reads reads' answer.Overflow r = absurd r
+
+or_answer : Answer → Option Report → Answer
+or_answer said None = said
+or_answer said (Some report) = report.answer
+
+fault-of_text : (fault : EntryFault) → IsOfText (fault_answer fault)
+fault-of_text fault.ArgCount = tt
+fault-of_text (fault.ArgKind argument) = tt
+fault-of_text (fault.ArgIndex argument) = tt
+fault-of_text (fault.EntryRow row) = tt
+
+faulty-of_text : (found : Option EntryFault) (said : Answer) → ((more : Option Report) → unless_faulty found more ≡ Some (plain said)) → IsOfText said
+unfolding or_answer
+faulty-of_text None said is = let clash : None ≡ Some (plain said) = is None in cc
+faulty-of_text (Some fault) said is = subst IsOfText (ap (or_answer said) (is None)) (fault-of_text fault)
 
 module _ (content : List ℕ → Option (List ℕ)) (text : List ℕ) (program : Straight) (accepts : Accepts (content text) program) where
   -- the report of an accepted program is that of its text
@@ -73,6 +89,7 @@ module _ (content : List ℕ → Option (List ℕ)) (text : List ℕ) (program :
   verified-cause reads reads' instructions counted = Told (record {
     command = Verify text;
     is = refl;
+    of_text = tt;
     told = λ bytes here.
         inr (of_accepted (Verify text) bytes (plain (answer.Accepted instructions)) here (ap (λ n. Some (plain (answer.Accepted n))) (sym counted)));
   })
@@ -83,6 +100,7 @@ module _ (content : List ℕ → Option (List ℕ)) (text : List ℕ) (program :
     faulty-cause reads reads' said (inr fault) = Told (record {
       command = Run text args;
       is = refl;
+      of_text = faulty-of_text (straight_fault program args) said fault;
       told = λ bytes here. inr (of_accepted (Run text args) bytes (plain said) here (fault _));
     })
 
@@ -122,6 +140,10 @@ end_of-how : (end : End) → end_of (how_of end) ≡ Some end
 end_of-how (ends.Returned word) = refl
 end_of-how ends.Overflow = refl
 
+end-of_text : (end : End) → IsOfText (answer_of end)
+end-of_text (ends.Returned word) = tt
+end-of_text ends.Overflow = tt
+
 end_is : (how : How) → HasEnded how → (end : End) × (how ≡ how_of end)
 end_is (how.Returned word) ended = (ends.Returned word, refl)
 end_is how.Overflow ended = (ends.Overflow, refl)
@@ -142,6 +164,7 @@ module _ (outcome : Outcome) (out mid out' : Option (List ℕ)) (status faults f
   run-said end between is numbers counted (inl all) = record {
     report = run_report outcome end;
     is = ended-report outcome end is;
+    of_text = end-of_text end;
     said = inl
         (record {
           status_is = all.status_is;
@@ -153,6 +176,7 @@ module _ (outcome : Outcome) (out mid out' : Option (List ℕ)) (status faults f
   run-said end between is numbers counted (inr part) = record {
     report = run_report outcome end;
     is = ended-report outcome end is;
+    of_text = end-of_text end;
     said = inr
         (record {
           status_is = part.status_is;
@@ -170,6 +194,7 @@ module _ (outcome : Outcome) (out mid out' : Option (List ℕ)) (status faults f
       record {
         report = run_report outcome end.0;
         is = ended-report outcome end.0 end.1;
+        of_text = end-of_text end.0;
         said = inr (record { status_is = four; part = prefix_within out out' (number_lines outcome.printed) (line_of (answer_of end.0)) part; rose = rose });
       }
 
@@ -190,7 +215,7 @@ pub went-run : (meant : Option Meant) (text : List ℕ) (args : List Arg) (conte
     → RunSaid (run_on machine steps []) status faults faults' out out' → Went meant content reads reads' status faults faults' out out'
 went-run meant text args content reads reads' machine status faults faults' out out' is from run = record {
   report = run.report;
-  cause = Told (record { command = Run text args; is = is; told = λ bytes here. from.told bytes here run.report run.is });
+  cause = Told (record { command = Run text args; is = is; of_text = run.of_text; told = λ bytes here. from.told bytes here run.report run.is });
   said = run.said;
 }
 

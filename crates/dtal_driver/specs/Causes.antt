@@ -82,10 +82,18 @@ pub record TextRose (meant : Option Meant) (reads reads' : List ℕ → ℕ) : T
   pub is : meant ≡ Some command
   pub rose : Rose (reads (text_of command)) (reads' (text_of command))
 
--- where the content of the command's text is told, this is what is reported of it
+-- the answer is one that depends on the text
+abbrev pub IsOfText : Answer → Type 0
+IsOfText answer.NoCommand = ⊥
+IsOfText answer.ReadFailed = ⊥
+IsOfText answer.Memory = ⊥
+IsOfText _ = Unit {0}
+
+-- the answer depends on the text, and where the content of the command's text is told, this is what is reported of it
 pub record Tells (meant : Option Meant) (content : List ℕ → Option (List ℕ)) (report : Report) : Type 0 where
   pub command : Meant
   pub is : meant ≡ Some command
+  pub of_text : IsOfText report.answer
   pub told : (bytes : List ℕ) → content (text_of command) ≡ Some bytes → Reports command bytes report
 
 -- Why this comes of the words: they mean nothing, the read failed, memory ran out, or it is what is reported of the text.
@@ -123,4 +131,5 @@ pub record Went (meant : Option Meant) (content : List ℕ → Option (List ℕ)
 pub record RunSaid (outcome : Outcome) (status faults faults' : ℕ) (out out' : Option (List ℕ)) : Type 0 where
   pub report : Report
   pub is : ended outcome ≡ Some report
+  pub of_text : IsOfText report.answer
   pub said : Says report status faults faults' out out'

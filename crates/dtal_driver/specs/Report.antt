@@ -68,13 +68,17 @@ unless_refused None more = more
 unless_refused (Some (verify.Refused at rule)) more = Some (plain (answer.Refused at rule))
 unless_refused (Some verify.Memory) more = None
 
+-- what is said of a fault of the arguments
+abbrev pub fault_answer : fault.EntryFault → Answer
+fault_answer fault.ArgCount = answer.ArgCount
+fault_answer (fault.ArgKind argument) = answer.ArgKind argument
+fault_answer (fault.ArgIndex argument) = answer.ArgIndex argument
+fault_answer (fault.EntryRow row) = answer.EntryRow row
+
 -- the first fault of the arguments, if there is one, and else what follows
 abbrev pub unless_faulty : Option fault.EntryFault → Option Report → Option Report
 unless_faulty None more = more
-unless_faulty (Some fault.ArgCount) more = Some (plain answer.ArgCount)
-unless_faulty (Some (fault.ArgKind argument)) more = Some (plain (answer.ArgKind argument))
-unless_faulty (Some (fault.ArgIndex argument)) more = Some (plain (answer.ArgIndex argument))
-unless_faulty (Some (fault.EntryRow row)) more = Some (plain (answer.EntryRow row))
+unless_faulty (Some fault) more = Some (plain (fault_answer fault))
 
 -- what the command reports of an accepted program
 abbrev pub accepted_report : Meant → Straight → Option Report

@@ -8,6 +8,8 @@
 mod answer;
 mod lines;
 mod run;
+#[cfg(test)]
+mod tests;
 mod text;
 mod top;
 mod words;

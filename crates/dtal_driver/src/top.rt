@@ -1,20 +1,25 @@
 //! The whole program: words in, a status out.
 
-ghost use Rattle.std.specs.Prelude.{◌≡◌, ◌≤◌, ℕ, List, length, Some, [], IfOk, IfErr};
+ghost use Rattle.std.specs.Prelude.{◌≡◌, ◌≢◌, ◌<◌, ◌≤◌, ◌⊎◌, ℕ, List, length, Some, None, [], IfOk, IfErr};
 
 ghost use Rattle.xan_io.specs.Faults.{Rose};
 ghost use Rattle.dtal_machine.specs.Ending.{HasEnded};
 ghost use Rattle.dtal_machine.specs.Steps.{IsLive, run_on};
 ghost use Rattle.dtal_machine.specs.Typing.{IsAccepted};
-ghost use Rattle.dtal_driver.specs.Causes.{Cause, IsLoaded, IsFaulty, IsLoadedFrom, Says, Went, RunSaid};
-ghost use Rattle.dtal_driver.specs.Report.{plain, steps};
-ghost use Rattle.dtal_driver.specs.Words.{words_mean, texts, Verify, Run};
+ghost use Rattle.std.specs.Io.KnownBytes.{append_known};
+ghost use Rattle.xan_io.specs.declared.arg.Arg.{Arg};
+ghost use Rattle.dtal_driver.specs.Answers.{status_of, line_of};
+ghost use Rattle.dtal_driver.specs.Promises.{IsStatus, OfText, RefusedAt, FaultyAt, RanTo, Ran, AcceptedText, Said, SaidInPart};
+ghost use Rattle.dtal_driver.specs.Causes.{Cause, TextRose, IsLoaded, IsFaulty, IsLoadedFrom, Says, Went, RunSaid};
+ghost use Rattle.dtal_driver.specs.Report.{Report, Reports, IsNoText, plain, report_text, steps};
+ghost use Rattle.dtal_driver.specs.Words.{Meant, words_mean, texts, text_of, Verify, Run};
 
 use crate::answer::Answer;
 use crate::lines::put_line;
-use crate::run::run;
+use crate::run::{End, run};
 use crate::text::accepted_program;
 use crate::words::{Command, WordsError, read_command};
+use dtal_code::one_program_a_text;
 use dtal_machine::{LoadError, Machine, Verified};
 use std::alloc::Global;
 use xan_io::{Arg, Files, Sink};
@@ -35,7 +40,48 @@ pub fn dtal_top<F: Files, O: Sink>(
     files: &mut F,
     out: &mut O,
 ) -> u8
+    ensures statuses { IsStatus result }
+
+    // 2, exactly where the words mean nothing, unless memory ran out; but a fault of `out` goes before all else.
+    ensures no_command { result ≡ 2 → words_mean (texts words.now) ≡ None }
+    ensures words { words_mean (texts words.now) ≡ None → result ≢ 4 → result ≢ 6 → result ≡ 2 }
+
+    // 3, only where the count of the text rose; 4, only where that of `out` rose, and wherever it grew.
+    ensures read_failed { result ≡ 3 → TextRose (words_mean (texts words.now)) (F.read_faults files.old) (F.read_faults files.new) }
+    ensures put_failed { result ≡ 4 → Rose (O.faults out.old) (O.faults out.new) }
+    ensures put_rises { O.faults out.old < O.faults out.new → result ≡ 4 }
+
+    // 20, 11, 12 and 14, by what the text holds; the clause `complete` says when they come.
+    ensures not_straight { result ≡ 20 → OfText (words_mean (texts words.now)) (F.content files.old) (λ command bytes. IsNoText bytes) }
+    ensures refused { result ≡ 11 → OfText (words_mean (texts words.now)) (F.content files.old) (λ command bytes. RefusedAt bytes (O.written out.old) (O.written out.new)) }
+    ensures faults { result ≡ 12 → OfText (words_mean (texts words.now)) (F.content files.old) (λ command bytes. FaultyAt command bytes (O.written out.old) (O.written out.new)) }
+    ensures overflow { result ≡ 14 → OfText (words_mean (texts words.now)) (F.content files.old) (λ command bytes. RanTo command bytes End.Overflow (O.written out.old) (O.written out.new)) }
+
+    // No name holds anything else afterwards.
+    ensures unchanged { (name : List ℕ) → F.content files.new name ≡ F.content files.old name }
+
+    // What is said: whole lines, for a cause; after 4 a part of them. Nothing goes before the line of 6, since a run wants no memory.
+    ensures said { result ≢ 4 → Said (words_mean (texts words.now)) (F.content files.old) (F.read_faults files.old) (F.read_faults files.new) result (O.written out.old) (O.written out.new) }
+    ensures cut { result ≡ 4 → SaidInPart (words_mean (texts words.now)) (F.content files.old) (F.read_faults files.old) (F.read_faults files.new) (O.written out.old) (O.written out.new) }
+    ensures memory { result ≡ 6 → O.written out.new ≡ append_known (O.written out.old) (line_of Answer.Memory) }
+
+    // What `verify` accepts is safe in every run, and what `run` says is the output of the run.
+    ensures accepted { (name bytes : List ℕ) → words_mean (texts words.now) ≡ Some (Verify name) → F.content files.old name ≡ Some bytes
+        → result ≡ 0 → AcceptedText bytes (O.written out.old) (O.written out.new) }
+    ensures ran { (name bytes : List ℕ) (args : List Arg) → words_mean (texts words.now) ≡ Some (Run name args) → F.content files.old name ≡ Some bytes
+        → (result ≡ 0) ⊎ (result ≡ 14) → Ran (Run name args) bytes result (O.written out.old) (O.written out.new) }
+
+    // The status and the lines are those of the report, unless a call of the outside fails or memory runs out.
+    ensures reported { (command : Meant) (bytes : List ℕ) (report : Report) → words_mean (texts words.now) ≡ Some command
+        → F.content files.old (text_of command) ≡ Some bytes → Reports command bytes report → result ≢ 3 → result ≢ 4 → result ≢ 6
+        → (result ≡ status_of report.answer) × (O.written out.new ≡ append_known (O.written out.old) (report_text report)) }
+    ensures complete { (command : Meant) (bytes : List ℕ) (report : Report) → words_mean (texts words.now) ≡ Some command
+        → F.content files.old (text_of command) ≡ Some bytes → Reports command bytes report
+        → (Rose (F.read_faults files.old (text_of command)) (F.read_faults files.new (text_of command)) → ⊥)
+        → (Rose (O.faults out.old) (O.faults out.new) → ⊥) → (result ≡ status_of report.answer) ⊎ (result ≡ 6) }
 {
+    // Cites the law: a text spells no other program.
+    one_program_a_text();
     execute(alloc, words, files, out)
 }
 
