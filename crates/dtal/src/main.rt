@@ -5,11 +5,11 @@
 
 ghost use Rattle.std.specs.Prelude.{◌≡◌, IfOk, drop, map, string_bytes};
 
+use dtal_driver::dtal_top;
 use std::alloc::{AllocError, Global};
 use std::process::ExitCode;
 use std::{env, io};
 use xan_io::{HostFiles, HostSink};
-use dtal_driver::dtal_top;
 
 fn main(rt: HostRuntime) -> io::Result<ExitCode> {
     let alloc = rt.alloc();

@@ -1,5 +1,5 @@
 -- What comes of a command, from what came of its parts.
-use Rattle.std.proofs.Common.{◌≡◌, ◌∙◌, ◌⊎◌, inl, inr, ⊎_elim, ℕ, ◌<◌, ◌≤◌, lit<, ℤ, List, [], ◌++◌, length, Option, None, Some, Result, Ok, Err, refl, sym, ap, subst, arith}
+use Rattle.std.proofs.Common.{◌≡◌, ◌∙◌, inl, inr, ℕ, ◌<◌, ◌≤◌, lit<, List, [], length, Option, None, Some, Result, Ok, Err, refl, sym, ap, subst, arith}
 use Rattle.std.specs.Prelude.{option_map, IfOk, IfErr}
 use Rattle.std.specs.Io.KnownBytes.{append_known}
 use Rattle.xan_io.specs.declared.arg.Arg.{Arg}
@@ -15,8 +15,7 @@ use Rattle.dtal_code.specs.Machine.{State}
 use Rattle.dtal_code.specs.Entry.{straight_fault, straight_entry, straight_outcome}
 use Rattle.dtal_machine.specs.Ending.{HasEnded}
 use Rattle.dtal_machine.specs.Loading.{begins, loaded}
-use Rattle.dtal_machine.specs.Refusal.{refusal}
-use Rattle.dtal_machine.specs.Steps.{Loaded, IsLive, run_on}
+use Rattle.dtal_machine.specs.Steps.{Loaded, run_on}
 use Rattle.dtal_machine.specs.Typing.{IsAccepted}
 use Rattle.dtal_machine.specs.declared.refusal.Where.{Where}
 use Rattle.dtal_machine.specs.declared.refusal.Rule.{Rule}
@@ -27,7 +26,7 @@ use Rattle.dtal_driver.specs.declared.answer.Answer.TheVariants as answer
 use Rattle.dtal_driver.specs.declared.run.End.{End}
 use Rattle.dtal_driver.specs.declared.run.End.TheVariants as ends
 use Rattle.dtal_driver.specs.Answers.{line_of, number_lines}
-use Rattle.dtal_driver.specs.Causes.{Accepts, IsRefusedText, Refuses, IsLoaded, IsFaulty, IsLoadedFrom, IsOfText, Tells, Cause, NoCommand, ReadFailed, Memory, Told, SaidAll, SaidPart, Says, Went, RunSaid}
+use Rattle.dtal_driver.specs.Causes.{Accepts, IsRefusedText, Refuses, IsLoaded, IsFaulty, IsLoadedFrom, IsOfText, Cause, NoCommand, ReadFailed, Memory, Told, Says, Went, RunSaid}
 use Rattle.dtal_driver.specs.Report.{Report, plain, heap, depth, steps, end_of, how_of, answer_of, ended, unless_refused, fault_answer, unless_faulty, accepted_report, ReportsOf}
 use Rattle.dtal_driver.specs.Words.{Meant, Verify, Run, text_of}
 

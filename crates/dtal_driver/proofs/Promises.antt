@@ -1,8 +1,7 @@
 -- What each status of a text promises, from how its report comes.
-use Rattle.std.proofs.Common.{◌≡◌, ◌≢◌, ◌∙◌, ◌⊎◌, inl, inr, ⊎_elim, ℕ, List, [], ◌++◌, length, Option, None, Some, refl, sym, ap, subst, arith}
+use Rattle.std.proofs.Common.{◌≡◌, ◌≢◌, ◌∙◌, ◌⊎◌, inl, inr, ⊎_elim, ℕ, List, Option, None, Some, sym, ap, subst, arith}
 use Rattle.std.specs.Io.KnownBytes.{append_known}
 use Rattle.xan_io.specs.declared.arg.Arg.{Arg}
-use Rattle.xan_io.specs.Entry.{EntryFault}
 use Rattle.dtal_code.specs.declared.straight.Straight.{Straight}
 use Rattle.dtal_text.specs.StraightText.{IsStraightText}
 use Rattle.dtal_code.specs.Entry.{straight_fault, straight_outcome}
@@ -12,10 +11,10 @@ use Rattle.dtal_machine.proofs.Runs.{accepted-runs_safely}
 use Rattle.dtal_driver.specs.declared.answer.Answer.TheVariants as answer
 use Rattle.dtal_driver.specs.declared.run.End.{End}
 use Rattle.dtal_driver.specs.declared.run.End.TheVariants as ends
-use Rattle.dtal_driver.specs.Answers.{status_of, line_of}
+use Rattle.dtal_driver.specs.Answers.{status_of}
 use Rattle.dtal_driver.specs.Causes.{SaidAll, Went}
 use Rattle.dtal_driver.specs.Promises.{OfText, RefusedAt, FaultyAt, RanTo, Ran, AcceptedText}
-use Rattle.dtal_driver.specs.Report.{Report, plain, report_text, heap, depth, steps, how_of, answer_of, fault_answer, IsNoText, ReportsOf, Reports}
+use Rattle.dtal_driver.specs.Report.{Report, plain, report_text, heap, depth, steps, how_of, answer_of, IsNoText, ReportsOf, Reports}
 use Rattle.dtal_driver.specs.Words.{Meant, Verify, Run, text_of}
 use Rattle.dtal_driver.proofs.Reports.{Way, Refuses, Accepts, IsFaulty, Runs, way_of}
 use Rattle.dtal_driver.proofs.Statuses.{IsApart, all_of, of_text, told_report, fault-twelve, end-status, end-overflow}
@@ -219,7 +218,7 @@ module _ (meant : Option Meant) (content : List ℕ → Option (List ℕ)) (read
     pub clause-ran : (name : List ℕ) (args : List Arg) → command ≡ Run name args → (status ≡ 0) ⊎ (status ≡ 14) → Ran command bytes status out out'
     clause-ran name args runs ended =
         let apart : (number : ℕ) → number ≢ 0 → number ≢ 14 → status ≢ number =
-            λ number not_zero not_fourteen e. ⊎_elim (λ zero. not_zero (sym e ∙ zero)) (λ fourteen. not_fourteen (sym e ∙ fourteen)) ended in
+        λ number not_zero not_fourteen e. ⊎_elim (λ zero. not_zero (sym e ∙ zero)) (λ fourteen. not_fourteen (sym e ∙ fourteen)) ended in
         ran_of (apart 3 (λ e. omega (arith, e)) (λ e. omega (arith, e))) (apart 4 (λ e. omega (arith, e)) (λ e. omega (arith, e)))
         (apart 6 (λ e. omega (arith, e)) (λ e. omega (arith, e))) (apart 20 (λ e. omega (arith, e)) (λ e. omega (arith, e))) name args runs ended
 

@@ -1,26 +1,23 @@
 -- What a report says of the program: the four ways in which one comes, and that a text has one.
-use Rattle.std.proofs.Common.{◌≡◌, ◌∙◌, ◌⊎◌, inl, inr, ℕ, ℤ, List, [], length, Option, None, Some, refl, sym, ap, subst, arith}
+use Rattle.std.proofs.Common.{◌≡◌, ◌∙◌, inl, inr, ℕ, ℤ, List, length, Option, None, Some, refl, sym, ap}
 use Rattle.std.specs.Prelude.{option_map}
 use Rattle.std.proofs.lemmas.Option.{none-some}
 use Rattle.xan_io.specs.declared.arg.Arg.{Arg}
 use Rattle.xan_io.specs.Entry.{EntryFault}
-use Rattle.xan_io.specs.Entry as fault
 use Rattle.xan_io.specs.Outcome.{How, Outcome}
 use Rattle.xan_io.specs.Outcome as how
 use Rattle.dtal_code.specs.declared.straight.Straight.{Straight}
 use Rattle.dtal_code.specs.Entry.{straight_fault, straight_outcome}
 use Rattle.dtal_code.specs.Text.{Spells}
-use Rattle.dtal_text.specs.StraightText.{IsStraightText}
 use Rattle.dtal_machine.specs.Refusal.{refusal}
 use Rattle.dtal_machine.specs.declared.refusal.Where.{Where}
 use Rattle.dtal_machine.specs.declared.refusal.Rule.{Rule}
 use Rattle.dtal_machine.specs.declared.refusal.VerifyError.{VerifyError}
 use Rattle.dtal_machine.specs.declared.refusal.VerifyError.TheVariants as verify
-use Rattle.dtal_driver.specs.declared.answer.Answer.{Answer}
 use Rattle.dtal_driver.specs.declared.answer.Answer.TheVariants as answer
 use Rattle.dtal_driver.specs.declared.run.End.{End}
 use Rattle.dtal_driver.specs.declared.run.End.TheVariants as ends
-use Rattle.dtal_driver.specs.Report.{Report, plain, heap, depth, steps, end_of, how_of, answer_of, ended, unless_refused, fault_answer, unless_faulty, accepted_report, program_report, IsNoText, ReportsOf, Reports}
+use Rattle.dtal_driver.specs.Report.{Report, plain, heap, depth, steps, end_of, how_of, answer_of, ended, unless_refused, fault_answer, unless_faulty, accepted_report, program_report, ReportsOf, Reports}
 use Rattle.dtal_driver.specs.Words.{Meant, Verify, Run}
 
 -- ---- one report

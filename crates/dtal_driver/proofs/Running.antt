@@ -1,8 +1,7 @@
 -- A loop that runs a machine and puts the lines of its numbers.
-use Rattle.std.proofs.Common.{◌≡◌, ◌∙◌, ℕ, zero, suc, ◌≤◌, ℤ, List, [], ◌∷◌, ◌++◌, Option, Some, None, refl, sym, ap, subst, append_assoc, append-nil}
+use Rattle.std.proofs.Common.{◌≡◌, ◌∙◌, ℕ, suc, ℤ, List, [], ◌∷◌, ◌++◌, Option, Some, refl, sym, ap, subst, append_assoc, append-nil}
 use Rattle.std.specs.Io.KnownBytes.{append_known}
 use Rattle.xan_io.specs.Agreement.{Begins}
-use Rattle.xan_io.specs.Faults.{Rose}
 use Rattle.xan_io.specs.Outcome.{How, Outcome}
 use Rattle.xan_io.specs.Outcome as how
 use Rattle.xan_io.specs.Written.{AppendsPrefix}
@@ -10,7 +9,6 @@ use Rattle.xan_io.proofs.Puts.{append_known-nil, append_known-twice, prefix_behi
 use Rattle.dtal_code.specs.declared.op.Op.{Op}
 use Rattle.dtal_code.proofs.Steps.{run-begins}
 use Rattle.dtal_machine.specs.Ending.{HasEnded}
-use Rattle.dtal_machine.specs.declared.event.Event.{Event}
 use Rattle.dtal_machine.specs.declared.event.Event.TheVariants.{Going, Print, Returned, NoStore, Overflow}
 use Rattle.dtal_machine.specs.Steps.{Loaded, Now, Live, Over, IsLive, event, stepped, moved, run_from, run_on}
 use Rattle.dtal_machine.proofs.Driving.{Stands, stands-going, stands-print, stands-returned, stands-no_store, stands-overflow, stands-spent}
@@ -93,9 +91,9 @@ module _ (whole : Outcome) (machine : Loaded) (left : ℕ) (out now : Option (Li
         let b = from-begins next.code next.now fewer all in
         let printed : whole.printed ≡ all ++ b.0 = ap (λ (o : Outcome). o.printed) (sym s.so_far) ∙ b.1 in
         let lines : number_lines whole.printed ≡ (number_lines runs.printed ++ number_line number) ++ number_lines b.0 =
-            ap number_lines printed ∙ lines-append all b.0 ∙ ap (λ front. front ++ number_lines b.0) (lines-one_more runs.printed number) in
+        ap number_lines printed ∙ lines-append all b.0 ∙ ap (λ front. front ++ number_lines b.0) (lines-one_more runs.printed number) in
         let from : AppendsPrefix (append_known out (number_lines runs.printed)) now' (number_line number) =
-            subst (λ told. AppendsPrefix told now' (number_line number)) runs.said (subst (λ n. AppendsPrefix now now' (number_line n)) one_number part) in
+        subst (λ told. AppendsPrefix told now' (number_line number)) runs.said (subst (λ n. AppendsPrefix now now' (number_line n)) one_number part) in
         subst (AppendsPrefix out now') (sym lines)
         (prefix_within out now' (number_lines runs.printed ++ number_line number) (number_lines b.0)
         (prefix_behind out now' (number_lines runs.printed) (number_line number) from))

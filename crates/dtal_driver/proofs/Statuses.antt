@@ -1,27 +1,20 @@
 -- From how a command went to what its status promises.
-use Rattle.std.proofs.Common.{◌≡◌, ◌≢◌, ◌∙◌, ◌⊎◌, inl, inr, ⊎_elim, ℕ, ◌<◌, List, [], ◌++◌, length, Option, None, Some, refl, sym, ap, subst, arith}
+use Rattle.std.proofs.Common.{◌≡◌, ◌≢◌, ◌∙◌, ◌⊎◌, inl, inr, ⊎_elim, ℕ, ◌<◌, List, Option, None, Some, refl, sym, ap, subst, arith}
 use Rattle.std.proofs.lemmas.Option.{none-some}
 use Rattle.std.specs.Io.KnownBytes.{append_known}
-use Rattle.xan_io.specs.declared.arg.Arg.{Arg}
 use Rattle.xan_io.specs.Entry.{EntryFault}
 use Rattle.xan_io.specs.Entry as fault
 use Rattle.xan_io.specs.Faults.{Rose}
-use Rattle.dtal_code.specs.declared.straight.Straight.{Straight}
-use Rattle.dtal_text.specs.StraightText.{IsStraightText}
-use Rattle.dtal_machine.specs.Typing.{IsAccepted}
-use Rattle.dtal_machine.specs.Refusal.{refusal}
-use Rattle.dtal_machine.proofs.Typings.{none-accepted, refused-is}
-use Rattle.dtal_machine.proofs.Runs.{accepted-runs_safely}
 use Rattle.dtal_driver.specs.declared.answer.Answer.{Answer}
 use Rattle.dtal_driver.specs.declared.answer.Answer.TheVariants as answer
 use Rattle.dtal_driver.specs.declared.run.End.{End}
 use Rattle.dtal_driver.specs.declared.run.End.TheVariants as ends
 use Rattle.dtal_driver.specs.Answers.{status_of, line_of}
 use Rattle.dtal_driver.specs.Causes.{IsOfText, TextRose, Tells, Cause, NoCommand, ReadFailed, Memory, Told, SaidAll, SaidPart, Went}
-use Rattle.dtal_driver.specs.Promises.{IsStatus, OfText, RefusedAt, FaultyAt, RanTo, Ran, AcceptedText, Said, SaidInPart}
-use Rattle.dtal_driver.specs.Report.{Report, plain, report_text, answer_of, fault_answer, IsNoText, ReportsOf, Reports}
-use Rattle.dtal_driver.specs.Words.{Meant, Verify, Run, text_of}
-use Rattle.dtal_driver.proofs.Reports.{OneProgram, one_report, Way, Refuses, Accepts, IsFaulty, Runs, way_of}
+use Rattle.dtal_driver.specs.Promises.{IsStatus, OfText, Said, SaidInPart}
+use Rattle.dtal_driver.specs.Report.{Report, plain, report_text, answer_of, fault_answer, Reports}
+use Rattle.dtal_driver.specs.Words.{Meant, text_of}
+use Rattle.dtal_driver.proofs.Reports.{OneProgram, one_report}
 
 -- ---- statuses of answers
 

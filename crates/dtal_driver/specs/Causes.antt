@@ -18,8 +18,8 @@ use Rattle.dtal_code.specs.Entry.{straight_fault, straight_outcome}
 use Rattle.dtal_machine.specs.Ending.{HasEnded}
 use Rattle.dtal_machine.specs.Steps.{Loaded, IsLive, run_on}
 use Rattle.dtal_driver.specs.Answers.{status_of}
-use Rattle.dtal_driver.specs.Report.{IsNoText, Report, Reports, plain, heap, depth, steps, ended, end_of, unless_faulty, report_text}
-use Rattle.dtal_driver.specs.Words.{Meant, Verify, Run, text_of}
+use Rattle.dtal_driver.specs.Report.{IsNoText, Report, Reports, plain, heap, depth, steps, ended, unless_faulty, report_text}
+use Rattle.dtal_driver.specs.Words.{Meant, Run, text_of}
 
 -- the bytes are the text of this program, which is accepted
 pub record AcceptsBytes (bytes : List ℕ) (program : Straight) : Type 0 where

@@ -17,7 +17,7 @@ use Rattle.dtal_driver.specs.declared.run.End.{End}
 use Rattle.dtal_driver.specs.Answers.{status_of, line_of, number_lines, refused_line, accepted_line}
 use Rattle.dtal_driver.specs.Causes.{Cause}
 use Rattle.dtal_driver.specs.Report.{Report, report_text, heap, depth, steps, how_of, answer_of, fault_answer}
-use Rattle.dtal_driver.specs.Words.{Meant, Verify, Run, text_of}
+use Rattle.dtal_driver.specs.Words.{Meant, Run, text_of}
 
 -- ---- statuses
 

@@ -1,6 +1,5 @@
 -- What a command reports of the text that its name holds: the numbers that it prints, and then its answer.
 use Rattle.std.specs.Prelude.{◌≡◌, ℕ, ℤ, List, [], ◌++◌, length, Option, Some, None, option_map, ◌⊎◌}
-use Rattle.xan_io.specs.declared.arg.Arg.{Arg}
 use Rattle.xan_io.specs.Entry as fault
 use Rattle.xan_io.specs.Outcome as how
 use Rattle.dtal_code.specs.declared.straight.Straight.{Straight}
@@ -14,7 +13,7 @@ use Rattle.dtal_driver.specs.declared.answer.Answer.TheVariants as answer
 use Rattle.dtal_driver.specs.declared.run.End.{End}
 use Rattle.dtal_driver.specs.declared.run.End.TheVariants as ends
 use Rattle.dtal_driver.specs.Answers.{line_of, number_lines}
-use Rattle.dtal_driver.specs.Words.{Meant, Verify, Run, text_of}
+use Rattle.dtal_driver.specs.Words.{Meant, Verify, Run}
 
 pub record Report : Type 0 where
   pub printed : List ℤ

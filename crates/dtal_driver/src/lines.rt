@@ -25,11 +25,20 @@ pub fn put_line<O: Sink>(out: &mut O, answer: Answer) -> Result<(), SinkFault>
         Answer::Memory => out.put(b"memory\n"),
         Answer::NotBuilt => out.put(b"not built yet\n"),
         Answer::Refused { at, rule } => put_refused(out, at, rule),
-        Answer::Accepted(instructions) => put_between(out, b"accepted: 1 functions, ", instructions, b" instructions\n"),
+        Answer::Accepted(instructions) => put_between(
+            out,
+            b"accepted: 1 functions, ",
+            instructions,
+            b" instructions\n",
+        ),
         Answer::ArgCount => out.put(b"entry: count\n"),
         Answer::ArgKind(argument) => put_between(out, b"entry: kind of argument ", argument, b"\n"),
-        Answer::ArgIndex(argument) =>
-            put_between(out, b"entry: index of argument ", argument, b"\n"),
+        Answer::ArgIndex(argument) => put_between(
+            out,
+            b"entry: index of argument ",
+            argument,
+            b"\n",
+        ),
         Answer::EntryRow(row) => put_between(out, b"entry: row ", row, b"\n"),
         Answer::Returned(word) => put_number(out, &word),
         Answer::Overflow => out.put(b"overflow\n"),
@@ -65,12 +74,7 @@ fn put_numbered<O: Sink>(out: &mut O, word: &[u8], number: u32) -> Result<(), Si
 
 /// Puts a word, a number and another word.
 #[tactic(auto, using(xan_io::proofs::Puts::puts))]
-fn put_between<O: Sink>(
-    out: &mut O,
-    word: &[u8],
-    number: u32,
-    more: &[u8],
-) -> Result<(), SinkFault>
+fn put_between<O: Sink>(out: &mut O, word: &[u8], number: u32, more: &[u8]) -> Result<(), SinkFault>
     ensures appended { OnOk result (O.written out.new ≡ append_known (O.written out.old) (numbered word.now number ++ more.now)) }
     ensures counted { OnOk result (O.faults out.new ≡ O.faults out.old) }
     ensures prefix { OnErr result (AppendsPrefix (O.written out.old) (O.written out.new) (numbered word.now number ++ more.now)) }
@@ -148,8 +152,20 @@ fn put_where<O: Sink>(out: &mut O, at: Where) -> Result<(), SinkFault>
         Where::Types(number) => put_numbered(out, b"type ", number),
         Where::Signature(function) => put_numbered(out, b"function ", function),
         Where::Program => out.put(b"program"),
-        Where::Label(function, label) => put_numbered_twice(out, b"function ", function, b" label ", label),
-        Where::Instr(function, number) => put_numbered_twice(out, b"function ", function, b" instruction ", number),
+        Where::Label(function, label) => put_numbered_twice(
+            out,
+            b"function ",
+            function,
+            b" label ",
+            label,
+        ),
+        Where::Instr(function, number) => put_numbered_twice(
+            out,
+            b"function ",
+            function,
+            b" instruction ",
+            number,
+        ),
     }
 }
 

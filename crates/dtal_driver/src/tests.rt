@@ -10,7 +10,8 @@ const SUM: &[u8] =
     b"dtal 1\nfun main {2|} (int(+1v0+0) int(+1v1+0)) {1|} int(+1v2+0)\nmv s0 r0\nmv s1 r1\nmv r13 s0\nmv r14 s1\nadd r13 r13 r14\nmv s2 r13\nli r13 3\nmv s3 r13\nmv r13 s2\nmv r14 s3\nsub r13 r13 r14\nmv s2 r13\nret s2\nend\n";
 
 /// Prints its parameter and returns it.
-const ECHO: &[u8] = b"dtal 1\nfun main {1|} (int(+1v0+0)) {1|} int(+1v1+0)\nprint r0\nret r0\nend\n";
+const ECHO: &[u8] =
+    b"dtal 1\nfun main {1|} (int(+1v0+0)) {1|} int(+1v1+0)\nprint r0\nret r0\nend\n";
 
 /// The same, but it returns a register that was never written.
 const UNWRITTEN: &[u8] =
@@ -94,12 +95,7 @@ const RUNS: &[(&[u8], &[&str], u8, &[u8])] = &[
         14,
         b"overflow\n",
     ),
-    (
-        SUM,
-        VERIFY,
-        0,
-        b"accepted: 1 functions, 13 instructions\n",
-    ),
+    (SUM, VERIFY, 0, b"accepted: 1 functions, 13 instructions\n"),
     (ECHO, VERIFY, 0, b"accepted: 1 functions, 2 instructions\n"),
     (ECHO, &["run", "text", "int=7"], 0, b"7\n7\n"),
     (
@@ -129,7 +125,12 @@ const RUNS: &[(&[u8], &[&str], u8, &[u8])] = &[
     ),
     (REGISTER_16, VERIFY, 20, b"not built yet\n"),
     (ECHO, &["run", "text"], 12, b"entry: count\n"),
-    (ECHO, &["run", "text", "int=1", "int=1"], 12, b"entry: count\n"),
+    (
+        ECHO,
+        &["run", "text", "int=1", "int=1"],
+        12,
+        b"entry: count\n",
+    ),
     (
         ECHO,
         &["run", "text", "bool=true"],
@@ -156,7 +157,12 @@ const RUNS: &[(&[u8], &[&str], u8, &[u8])] = &[
     ),
     (
         ADD,
-        &["run", "text", "int=9223372036854775807", "int=-9223372036854775808"],
+        &[
+            "run",
+            "text",
+            "int=9223372036854775807",
+            "int=-9223372036854775808",
+        ],
         0,
         b"9223372036854775807\n-1\n",
     ),
@@ -189,7 +195,15 @@ fn texts_are_verified_and_run(rt: HostRuntime) -> Result<(), Fail> {
     let mut files = SafeFiles::new(alloc);
     files.set("text", SUM)?;
     let mut out = MemSink::new(alloc, 1000, Vec::new(alloc))?;
-    assert_eq!(rt; dtal_top(alloc, &["run", "text", "int=2", "int=3"], &mut files, &mut out), 0);
+    assert_eq!(rt;
+        dtal_top(
+            alloc,
+            &["run", "text", "int=2", "int=3"],
+            &mut files,
+            &mut out
+        ),
+        0
+    );
     assert!(rt; out.bytes() == b"2\n".as_slice());
     Ok(())
 }
@@ -230,9 +244,25 @@ fn words_mean_a_command_or_none(rt: HostRuntime) -> Result<(), Fail> {
     }
     // An empty word and a dash are values: names that are not there.
     assert!(rt; comes_out(alloc, &["verify", ""], Some(ECHO), 3, b"read: failed\n")?);
-    assert!(rt; comes_out(alloc, &["run", "-", "int=1"], Some(ECHO), 3, b"read: failed\n")?);
+    assert!(rt;
+        comes_out(
+            alloc,
+            &["run", "-", "int=1"],
+            Some(ECHO),
+            3,
+            b"read: failed\n"
+        )?
+    );
     assert!(rt; comes_out(alloc, &["run", "text"], None, 3, b"read: failed\n")?);
-    assert!(rt; comes_out(alloc, &["run", "text", "x"], None, 2, b"words: not a command\n")?);
+    assert!(rt;
+        comes_out(
+            alloc,
+            &["run", "text", "x"],
+            None,
+            2,
+            b"words: not a command\n"
+        )?
+    );
     Ok(())
 }
 
@@ -292,8 +322,10 @@ fn each_call_fails_once(rt: HostRuntime) -> Result<(), Fail> {
 
 /// A text of so many instructions, all but the last of which print.
 fn long_code(alloc: Global, instructions: u64) -> Result<Vec<u8>, Memory> {
-    let mut text =
-        Vec::from_slice(alloc, b"dtal 1\nfun main {1|} (int(+1v0+0)) {1|} int(+1v1+0)\n")?;
+    let mut text = Vec::from_slice(
+        alloc,
+        b"dtal 1\nfun main {1|} (int(+1v0+0)) {1|} int(+1v1+0)\n",
+    )?;
     for _ in 1..instructions {
         text.extend_from_slice(b"print r0\n")?;
     }
@@ -316,14 +348,38 @@ fn long_name(alloc: Global, len: usize) -> Result<Vec<u8>, Memory> {
 fn the_bounds_of_straight_texts(rt: HostRuntime) -> Result<(), Fail> {
     let alloc = rt.alloc();
     let most = long_code(alloc, 1000)?;
-    assert!(rt; comes_out(alloc, VERIFY, Some(most.as_slice()), 0, b"accepted: 1 functions, 1000 instructions\n")?);
+    assert!(rt;
+        comes_out(
+            alloc,
+            VERIFY,
+            Some(most.as_slice()),
+            0,
+            b"accepted: 1 functions, 1000 instructions\n"
+        )?
+    );
     let more = long_code(alloc, 1001)?;
     assert!(rt; comes_out(alloc, VERIFY, Some(more.as_slice()), 20, b"not built yet\n")?);
     let longest = long_name(alloc, 1048576)?;
     assert_eq!(rt; longest.len(), 1048576);
-    assert!(rt; comes_out(alloc, VERIFY, Some(longest.as_slice()), 11, b"refused: program: rule main\n")?);
+    assert!(rt;
+        comes_out(
+            alloc,
+            VERIFY,
+            Some(longest.as_slice()),
+            11,
+            b"refused: program: rule main\n"
+        )?
+    );
     let longer = long_name(alloc, 1048577)?;
-    assert!(rt; comes_out(alloc, VERIFY, Some(longer.as_slice()), 20, b"not built yet\n")?);
+    assert!(rt;
+        comes_out(
+            alloc,
+            VERIFY,
+            Some(longer.as_slice()),
+            20,
+            b"not built yet\n"
+        )?
+    );
     Ok(())
 }
 
@@ -332,7 +388,10 @@ fn no_proper_prefix_is_straight(rt: HostRuntime) -> Result<(), Fail> {
     let alloc = rt.alloc();
     for len in 0..ECHO.len() {
         let (prefix, _) = ECHO.split_at(len);
-        assert!(rt; comes_out(alloc, VERIFY, Some(prefix), 20, b"not built yet\n")?, "prefix {len}");
+        assert!(rt;
+            comes_out(alloc, VERIFY, Some(prefix), 20, b"not built yet\n")?,
+            "prefix {len}"
+        );
     }
     Ok(())
 }

@@ -1,7 +1,6 @@
 //! The whole program: words in, a status out.
 
 ghost use Rattle.std.specs.Prelude.{◌≡◌, ◌≢◌, ◌<◌, ◌≤◌, ◌⊎◌, ℕ, List, length, Some, None, [], IfOk, IfErr};
-
 ghost use Rattle.xan_io.specs.Faults.{Rose};
 ghost use Rattle.dtal_machine.specs.Ending.{HasEnded};
 ghost use Rattle.dtal_machine.specs.Steps.{IsLive, run_on};
@@ -34,12 +33,7 @@ const DEPTH: u64 = 4096;
 const CUT: u8 = 4;
 
 /// Does what the words ask for, says how it came out on `out`, and answers the status to end with.
-pub fn dtal_top<F: Files, O: Sink>(
-    alloc: Global,
-    words: &[&str],
-    files: &mut F,
-    out: &mut O,
-) -> u8
+pub fn dtal_top<F: Files, O: Sink>(alloc: Global, words: &[&str], files: &mut F, out: &mut O) -> u8
     ensures statuses { IsStatus result }
 
     // 2, exactly where the words mean nothing, unless memory ran out; but a fault of `out` goes before all else.

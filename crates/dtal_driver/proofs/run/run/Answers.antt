@@ -1,6 +1,6 @@
-use Rattle.std.proofs.Common.{rules, ◌≡◌, ◌-◌, ◌+◌, ◌≤◌, suc, FitsSigned, w64, arith}
+use Rattle.std.proofs.Common.{rules, ◌≡◌, ◌-◌, ◌+◌, suc, FitsSigned, w64, arith}
 use Rattle.std.proofs.lemmas.Int.{to_z-of_z}
-use Rattle.dtal_driver.proofs.Running.{RunsOn, runs-begin, runs-going, runs-print, runs-cut, runs-returned, runs-overflow, runs-no_store, runs-not_spent}
+use Rattle.dtal_driver.proofs.Running.{runs-begin, runs-going, runs-print, runs-cut, runs-returned, runs-overflow, runs-not_spent}
 use Rattle.dtal_driver.specs.Report.{steps}
 use Rattle.dtal_driver.proofs.run.run.Goals as goal
 use Rattle.dtal_driver.proofs.run.run.Goals.{in-Going, in-Print+in_ok-put_number-in-Print}
@@ -12,14 +12,14 @@ pub loop-step-preserved : goal.loop-step-preserved
 loop-step-preserved g c =
     let one : steps - c.loop-step.step ≡ suc (steps - (c.loop-step.step + 1)) = omega arith in
     elim c.match-step.branch [
-      in-Going w ↦
+      | in-Going w ↦
           let on = runs-going _ _ _ _ _ _ _ c.loop-step.invariant _ one c.step.new.self w.in-Going.ensures.state w.in-Going.ensures.told in
           rw w.out-is on
       | in-Print+in_ok-put_number-in-Print w ↦
           let fits : FitsSigned w64 w.in-Print.number = search rules in
           let on =
-              runs-print _ _ _ _ _ _ _ c.loop-step.invariant _ one c.step.new.self w.in-Print.number _ _ _ w.in-Print.ensures.state w.in-Print.ensures.told
-              (to_z-of_z w64 w.in-Print.number fits) w.in_ok-put_number-in-Print.ensures.appended w.in_ok-put_number-in-Print.ensures.counted in
+          runs-print _ _ _ _ _ _ _ c.loop-step.invariant _ one c.step.new.self w.in-Print.number _ _ _ w.in-Print.ensures.state w.in-Print.ensures.told
+          (to_z-of_z w64 w.in-Print.number fits) w.in_ok-put_number-in-Print.ensures.appended w.in_ok-put_number-in-Print.ensures.counted in
           rw w.out-is on
     ]
 
@@ -28,8 +28,8 @@ returns-in_err-put_number-in-Print-clause-prefix g c =
     let one : steps - c.loop-step.step ≡ suc (steps - (c.loop-step.step + 1)) = omega arith in
     let fits : FitsSigned w64 c.in-Print.number = search rules in
     let part =
-        runs-cut _ _ _ _ _ _ _ c.loop-step.invariant _ one c.in-Print.number _ _ c.in-Print.ensures.told (to_z-of_z w64 c.in-Print.number fits)
-        c.in_err-put_number-in-Print.ensures.prefix in
+    runs-cut _ _ _ _ _ _ _ c.loop-step.invariant _ one c.in-Print.number _ _ c.in-Print.ensures.told (to_z-of_z w64 c.in-Print.number fits)
+    c.in_err-put_number-in-Print.ensures.prefix in
     search (rules, part)
 
 pub returns-in-Returned-clause-ended : goal.returns-in-Returned-clause-ended
