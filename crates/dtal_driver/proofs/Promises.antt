@@ -1,12 +1,16 @@
 -- What each status of a text promises, from how its report comes.
-use Rattle.std.proofs.Common.{◌≡◌, ◌≢◌, ◌∙◌, ◌⊎◌, inl, inr, ⊎_elim, ℕ, List, Option, None, Some, sym, ap, subst, arith}
+use Rattle.std.proofs.Common.{◌≡◌, ◌≢◌, ◌∙◌, ◌⊎◌, inl, inr, ⊎_elim, ℕ, List, length, Option, None, Some, sym, ap, subst, arith}
 use Rattle.std.specs.Io.KnownBytes.{append_known}
 use Rattle.xan_io.specs.declared.arg.Arg.{Arg}
 use Rattle.dtal_code.specs.declared.straight.Straight.{Straight}
 use Rattle.dtal_text.specs.StraightText.{IsStraightText}
 use Rattle.dtal_code.specs.Entry.{straight_fault, straight_outcome}
-use Rattle.dtal_machine.specs.Refusal.{refusal}
-use Rattle.dtal_machine.proofs.Typings.{none-accepted, refused-is}
+use Rattle.dtal_machine.specs.Refusal.{IsRefused, refusal}
+use Rattle.dtal_machine.specs.Typing.{IsAccepted}
+use Rattle.dtal_machine.specs.declared.refusal.Where.{Where}
+use Rattle.dtal_machine.specs.declared.refusal.Rule.{Rule}
+use Rattle.xan_io.specs.Faults.{Rose}
+use Rattle.dtal_machine.proofs.Typings.{none-accepted, none-is_accepted, refused-is, some-is_refused}
 use Rattle.dtal_machine.proofs.Runs.{accepted-runs_safely}
 use Rattle.dtal_driver.specs.declared.answer.Answer.TheVariants as answer
 use Rattle.dtal_driver.specs.declared.run.End.{End}
@@ -14,10 +18,10 @@ use Rattle.dtal_driver.specs.declared.run.End.TheVariants as ends
 use Rattle.dtal_driver.specs.Answers.{status_of}
 use Rattle.dtal_driver.specs.Causes.{SaidAll, Went}
 use Rattle.dtal_driver.specs.Promises.{OfText, RefusedAt, FaultyAt, RanTo, Ran, AcceptedText}
-use Rattle.dtal_driver.specs.Report.{Report, plain, report_text, heap, depth, steps, how_of, answer_of, IsNoText, ReportsOf, Reports}
+use Rattle.dtal_driver.specs.Report.{Report, plain, report_text, heap, depth, steps, how_of, answer_of, unless_refused, accepted_report, IsNoText, ReportsOf, Reports}
 use Rattle.dtal_driver.specs.Words.{Meant, Verify, Run, text_of}
-use Rattle.dtal_driver.proofs.Reports.{Way, Refuses, Accepts, IsFaulty, Runs, way_of}
-use Rattle.dtal_driver.proofs.Statuses.{IsApart, all_of, of_text, told_report, fault-twelve, end-status, end-overflow}
+use Rattle.dtal_driver.proofs.Reports.{OneProgram, Way, Refuses, Accepts, IsFaulty, Runs, way_of}
+use Rattle.dtal_driver.proofs.Statuses.{IsApart, all_of, of_text, told_report, clause-complete, fault-twelve, end-status, end-overflow}
 
 -- ---- a report of a program
 
@@ -170,7 +174,8 @@ module _ (meant : Option Meant) (content : List ℕ → Option (List ℕ)) (read
   clause-refused is =
       let apart : IsApart 11 = record { two = λ e. omega (arith, e); three = λ e. omega (arith, e); six = λ e. omega (arith, e) } in
       let not : 11 ≢ 4 = λ e. omega (arith, e) in
-      by_program 11 apart not is _ (λ e. omega (arith, e))
+      let other : 11 ≢ 20 = λ e. omega (arith, e) in
+      by_program 11 apart not is _ other
       (λ command bytes program text way.
       refused_at command bytes went.report program text out out' ((all 11 apart not is).said) way (own_status 11 apart not is))
 
@@ -178,7 +183,8 @@ module _ (meant : Option Meant) (content : List ℕ → Option (List ℕ)) (read
   clause-faults is =
       let apart : IsApart 12 = record { two = λ e. omega (arith, e); three = λ e. omega (arith, e); six = λ e. omega (arith, e) } in
       let not : 12 ≢ 4 = λ e. omega (arith, e) in
-      by_program 12 apart not is _ (λ e. omega (arith, e))
+      let other : 12 ≢ 20 = λ e. omega (arith, e) in
+      by_program 12 apart not is _ other
       (λ command bytes program text way.
       faulty_at command bytes went.report program text out out' ((all 12 apart not is).said) way (own_status 12 apart not is))
 
@@ -186,7 +192,8 @@ module _ (meant : Option Meant) (content : List ℕ → Option (List ℕ)) (read
   clause-overflow is =
       let apart : IsApart 14 = record { two = λ e. omega (arith, e); three = λ e. omega (arith, e); six = λ e. omega (arith, e) } in
       let not : 14 ≢ 4 = λ e. omega (arith, e) in
-      by_program 14 apart not is _ (λ e. omega (arith, e))
+      let other : 14 ≢ 20 = λ e. omega (arith, e) in
+      by_program 14 apart not is _ other
       (λ command bytes program text way.
       ran_to_overflow command bytes went.report program text out out' ((all 14 apart not is).said) way (own_status 14 apart not is))
 
@@ -227,3 +234,25 @@ module _ (meant : Option Meant) (content : List ℕ → Option (List ℕ)) (read
         let apart : (number : ℕ) → number ≢ 0 → status ≢ number = λ number not_zero e. not_zero (sym e ∙ zero) in
         accepted_of (apart 3 (λ e. omega (arith, e))) (apart 4 (λ e. omega (arith, e))) (apart 6 (λ e. omega (arith, e))) (apart 20 (λ e. omega (arith, e))) name
         verifies zero
+
+  -- ---- both verdicts
+
+  module _ (one : OneProgram) (name bytes : List ℕ) (program : Straight) (means : meant ≡ Some (Verify name)) (here : content name ≡ Some bytes)
+      (text : IsStraightText bytes program) where
+    of_report : (report : Report) → unless_refused (refusal program) (accepted_report (Verify name) program) ≡ Some report
+        → (Rose (reads name) (reads' name) → ⊥) → (Rose faults faults' → ⊥) → (status ≡ status_of report.answer) ⊎ (status ≡ 6)
+    of_report report is no_read no_put =
+        clause-complete meant content reads reads' status faults faults' out out' went (Verify name) bytes means here one report
+        (inr (record { program = program; text = text; is = is })) no_read no_put
+
+    pub clause-accepts : IsAccepted program → (Rose (reads name) (reads' name) → ⊥) → (Rose faults faults' → ⊥) → (status ≡ 0) ⊎ (status ≡ 6)
+    clause-accepts accepted no_read no_put =
+        of_report (plain (answer.Accepted (length program.code)))
+        (ap (λ refused. unless_refused refused (accepted_report (Verify name) program)) (none-is_accepted program text.spells.straight accepted)) no_read no_put
+
+    pub clause-refuses : (at : Where) (rule : Rule) → IsRefused program at rule → (Rose (reads name) (reads' name) → ⊥) → (Rose faults faults' → ⊥)
+        → (status ≡ 11) ⊎ (status ≡ 6)
+    clause-refuses at rule refused no_read no_put =
+        of_report (plain (answer.Refused at rule))
+        (ap (λ refused. unless_refused refused (accepted_report (Verify name) program)) (some-is_refused program at rule text.spells.straight refused)) no_read
+        no_put

@@ -4,7 +4,10 @@ ghost use Rattle.std.specs.Prelude.{◌≡◌, ◌≢◌, ◌<◌, ◌≤◌, �
 ghost use Rattle.xan_io.specs.Faults.{Rose};
 ghost use Rattle.dtal_machine.specs.Ending.{HasEnded};
 ghost use Rattle.dtal_machine.specs.Steps.{IsLive, run_on};
+ghost use Rattle.dtal_machine.specs.Refusal.{IsRefused};
 ghost use Rattle.dtal_machine.specs.Typing.{IsAccepted};
+ghost use Rattle.dtal_code.specs.declared.straight.Straight.{Straight};
+ghost use Rattle.dtal_text.specs.StraightText.{IsStraightText};
 ghost use Rattle.std.specs.Io.KnownBytes.{append_known};
 ghost use Rattle.xan_io.specs.declared.arg.Arg.{Arg};
 ghost use Rattle.dtal_driver.specs.Answers.{status_of, line_of};
@@ -19,7 +22,7 @@ use crate::run::{End, run};
 use crate::text::accepted_program;
 use crate::words::{Command, WordsError, read_command};
 use dtal_code::one_program_a_text;
-use dtal_machine::{LoadError, Machine, Verified};
+use dtal_machine::{LoadError, Machine, Rule, Verified, Where};
 use std::alloc::Global;
 use xan_io::{Arg, Files, Sink};
 
@@ -73,6 +76,16 @@ pub fn dtal_top<F: Files, O: Sink>(alloc: Global, words: &[&str], files: &mut F,
         → F.content files.old (text_of command) ≡ Some bytes → Reports command bytes report
         → (Rose (F.read_faults files.old (text_of command)) (F.read_faults files.new (text_of command)) → ⊥)
         → (Rose (O.faults out.old) (O.faults out.new) → ⊥) → (result ≡ status_of report.answer) ⊎ (result ≡ 6) }
+
+    // So `verify` answers 0 where the program is accepted, and 11 where it is refused.
+    ensures accepts { (name bytes : List ℕ) (program : Straight) → words_mean (texts words.now) ≡ Some (Verify name)
+        → F.content files.old name ≡ Some bytes → IsStraightText bytes program → IsAccepted program
+        → (Rose (F.read_faults files.old name) (F.read_faults files.new name) → ⊥)
+        → (Rose (O.faults out.old) (O.faults out.new) → ⊥) → (result ≡ 0) ⊎ (result ≡ 6) }
+    ensures refuses { (name bytes : List ℕ) (program : Straight) (at : Where) (rule : Rule) → words_mean (texts words.now) ≡ Some (Verify name)
+        → F.content files.old name ≡ Some bytes → IsStraightText bytes program → IsRefused program at rule
+        → (Rose (F.read_faults files.old name) (F.read_faults files.new name) → ⊥)
+        → (Rose (O.faults out.old) (O.faults out.new) → ⊥) → (result ≡ 11) ⊎ (result ≡ 6) }
 {
     // Cites the law: a text spells no other program.
     one_program_a_text();
