@@ -1,4 +1,5 @@
 pub mod Ring
+pub mod Booleans
 pub mod Sums
 pub mod Sizes
 pub mod Merging
@@ -6,3 +7,8 @@ pub mod Values
 pub mod Scaling
 pub mod Gathering
 pub mod Collecting
+pub mod Evaluating
+pub mod Looking
+pub mod Replacing
+pub mod Products
+pub mod Substituting

@@ -6,6 +6,7 @@ use Rattle.xan_lin.specs.Linear.{Linear, IsForm, is_within, all_within, are_with
 use Rattle.xan_lin.specs.declared.term.Term.{Term}
 use Rattle.xan_lin.specs.declared.term.TooLarge.{TooLarge}
 use Rattle.xan_lin.specs.declared.term.TooLarge.TheVariants.{Magnitude}
+use Rattle.xan_lin.proofs.Booleans.{both_true, second_false, first_false}
 use Rattle.xan_lin.proofs.Sizes.{sized-large, fits_is}
 use Rattle.xan_lin.proofs.Merging.{length-multiple}
 use Rattle.xan_lin.proofs.Sums.{rises_as, with_multiple-append, IsRising-with_multiple}
@@ -44,19 +45,6 @@ multiple-large : (var : ℕ) (coef : ℤ) → is_within coef ≡ false → all_w
 multiple-large var (pos zero) h = cc
 multiple-large var (pos (suc n)) h = ap (λ b. b && true) h
 multiple-large var (negsuc n) h = ap (λ b. b && true) h
-
-both_true : (a b : Bool) → a ≡ true → b ≡ true → (a && b) ≡ true
-both_true true true h k = refl
-both_true true false h k = k
-both_true false b h k = h
-
-second_false : (a b : Bool) → b ≡ false → (a && b) ≡ false
-second_false true b h = h
-second_false false b h = refl
-
-first_false : (a b : Bool) → a ≡ false → (a && b) ≡ false
-first_false true b h = cc
-first_false false b h = refl
 
 here : (terms : List Term) (by : ℤ) (at : ℕ) → at < length terms
     → scaled_terms (drop at terms) by

@@ -1,19 +1,13 @@
 -- When an exact result is a form.
-use Rattle.std.proofs.Common.{◌≡◌, ℕ, ◌<◌, ◌≤◌, ℤ, Bool, true, false, cond, List, length, nat_lt, Result, Ok, Err, sym, ◌∙◌, ap, arith}
-use Rattle.std.proofs.lemmas.Bool.Decides.{nat_tests}
+use Rattle.std.proofs.Common.{◌≡◌, ◌<◌, ◌≤◌, ℤ, Bool, true, false, cond, List, length, nat_lt, Result, Ok, Err, IfErr, sym, ◌∙◌, ap}
 use Rattle.xan_lin.specs.Linear.{Linear, are_within, sized}
 use Rattle.xan_lin.specs.declared.term.Term.{Term}
 use Rattle.xan_lin.specs.declared.term.TooLarge.{TooLarge}
 use Rattle.xan_lin.specs.declared.term.TooLarge.TheVariants.{Terms, Magnitude}
+use Rattle.xan_lin.proofs.Booleans.{less, not_less}
 
 choice : (b r : Bool) (x y : Result Linear TooLarge) → b ≡ r → cond b x y ≡ cond r x y
 choice b r x y e = ap (λ c. cond c x y) e
-
-less : (m n : ℕ) → m < n → nat_lt m n ≡ true
-less m n h = grind (arith, nat_tests)
-
-not_less : (m n : ℕ) → n ≤ m → nat_lt m n ≡ false
-not_less m n h = grind (arith, nat_tests)
 
 pub sized-many : (ts : List Term) (constant : ℤ) → 16 < length ts → sized ts constant ≡ Err Terms
 unfolding sized
@@ -49,3 +43,19 @@ pub sized-parts : (ts : List Term) (constant : ℤ) (given : Linear) → sized t
     → (let form : Linear = record { terms = ts; constant = constant } in form) ≡ given
 unfolding sized
 sized-parts ts constant given e = chosen (nat_lt 16 (length ts)) (are_within ts constant) (record { terms = ts; constant = constant }) given e
+
+chosen_error : (within : Bool) (form : Linear) (error : TooLarge) → cond within (let r : Result Linear TooLarge = Ok form in r) (Err Magnitude) ≡ Err error → error ≡ Magnitude
+chosen_error true form error e = cc
+chosen_error false form error e = cc
+
+-- with few terms only a magnitude can be too large
+pub sized-error : (ts : List Term) (constant : ℤ) (error : TooLarge) → length ts ≤ 16 → sized ts constant ≡ Err error → error ≡ Magnitude
+unfolding sized
+sized-error ts constant error h e =
+    chosen_error (are_within ts constant) (record { terms = ts; constant = constant }) error
+    (sym (choice (nat_lt 16 (length ts)) false _ _ (not_less 16 (length ts) h)) ∙ e)
+
+-- the same of an answer
+pub few_errors : (ts : List Term) (constant : ℤ) (answer : Result Linear TooLarge) → length ts ≤ 16 → answer ≡ sized ts constant → IfErr answer (λ error. error ≡ Magnitude)
+few_errors ts constant (Ok form) h e = tt
+few_errors ts constant (Err error) h e = sized-error ts constant error h (sym e)

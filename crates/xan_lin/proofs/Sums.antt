@@ -1,9 +1,9 @@
 -- Sums of rising terms: that they rise, and what the merge of two such lists is, term by term.
 use Rattle.std.proofs.Common.{◌≡◌, ◌≢◌, ℕ, zero, suc, ◌^◌, ◌<◌, ◌≤◌, ℤ, pos, negsuc, ◌+ℤ◌, neg_ℤ, unsigned_abs, ◌&&◌, List, [], ◌∷◌, ◌++◌, Bool, true, false, nat_lt, cond, refl, sym, ◌∙◌, ap, subst, arith}
-use Rattle.std.proofs.lemmas.Bool.Decides.{nat_tests}
 use Rattle.xan_lin.specs.Terms.{IsRising, with_multiple, plus_term, sum_terms, negated_terms}
 use Rattle.xan_lin.specs.Linear.{is_within, all_within}
 use Rattle.xan_lin.specs.declared.term.Term.{Term}
+use Rattle.xan_lin.proofs.Booleans.{less, not_less}
 
 -- ---- terms that rise
 
@@ -56,12 +56,6 @@ IsRising-with_multiple low var (pos (suc n)) us le r = (le, (λ e. cc), r)
 IsRising-with_multiple low var (negsuc n) us le r = (le, (λ e. cc), r)
 
 -- ---- one more term
-
-less : (m n : ℕ) → m < n → nat_lt m n ≡ true
-less m n h = grind (arith, nat_tests)
-
-not_less : (m n : ℕ) → n ≤ m → nat_lt m n ≡ false
-not_less m n h = grind (arith, nat_tests)
 
 choice : (b : Bool) (r : Bool) (xs ys : List Term) → b ≡ r → cond b xs ys ≡ cond r xs ys
 choice b r xs ys e = ap (λ c. cond c xs ys) e

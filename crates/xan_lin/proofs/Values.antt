@@ -15,7 +15,7 @@ value-with_multiple values var (pos zero) us = sym (ap (λ n. n +ℤ value_of_te
 value-with_multiple values var (pos (suc n)) us = refl
 value-with_multiple values var (negsuc n) us = refl
 
-value-cons : (values : List ℤ) (t : Term) (us : List Term)
+pub value-cons : (values : List ℤ) (t : Term) (us : List Term)
     → value_of_terms values (t ∷ us) ≡ (t.coef *ℤ value_at values t.var) +ℤ value_of_terms values us
 unfolding value_of_terms
 value-cons values t us = refl
@@ -72,7 +72,7 @@ value-scaled values (t ∷ ts) by =
 
 -- ---- forms
 
-value-none : (values : List ℤ) → value_of_terms values [] ≡ pos 0
+pub value-none : (values : List ℤ) → value_of_terms values [] ≡ pos 0
 unfolding value_of_terms
 value-none values = refl
 

@@ -2,3 +2,6 @@ pub mod Terms
 pub mod Linear
 pub mod Value
 pub mod Text
+pub mod Wide
+pub mod Subst
+pub mod Products

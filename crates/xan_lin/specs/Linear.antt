@@ -1,6 +1,6 @@
 -- What is seen of a form, and when an exact result is one.
-use Rattle.std.specs.Prelude.{◌^◌, ◌-◌, ◌≤◌, ℤ, pos, ◌+ℤ◌, ◌-ℤ◌, ◌*ℤ◌, neg_ℤ, Bool, ◌&&◌, IsTrue, List, [], length, nat_lt, unsigned_abs, Result, Ok, Err, if◌then◌else◌}
-use Rattle.std.specs.List.{list_all}
+use Rattle.std.specs.Prelude.{◌^◌, ◌-◌, ℕ, ◌<◌, ◌≤◌, ℤ, pos, ◌+ℤ◌, ◌-ℤ◌, ◌*ℤ◌, neg_ℤ, Bool, ◌&&◌, IsTrue, List, [], ◌∷◌, length, nat_lt, unsigned_abs, Result, Ok, Err, if◌then◌else◌}
+use Rattle.std.specs.List.{All, list_all}
 use Rattle.xan_lin.specs.Terms.{IsRising, sum_terms, negated_terms, scaled_terms}
 use Rattle.xan_lin.specs.declared.term.Term.{Term}
 use Rattle.xan_lin.specs.declared.term.TooLarge.{TooLarge}
@@ -23,6 +23,14 @@ pub record IsForm (form : Linear) : Type 0 where
   pub few : length form.terms ≤ 16
   pub small : IsTrue (all_within form.terms)
   pub small_constant : IsTrue (is_within form.constant)
+
+-- the form that is the variable
+abbrev pub variable_form : ℕ → Linear
+variable_form var = record { terms = record { var = var; coef = pos 1 } ∷ []; constant = pos 0 }
+
+-- the form names only variables below `vars`
+abbrev pub NamesBelow : ℕ → Linear → Type 0
+NamesBelow vars form = All (λ t. t.var < vars) form.terms
 
 -- each number of these terms and of the constant is
 abbrev pub are_within : List Term → ℤ → Bool

@@ -1,16 +1,21 @@
 // The form and its calls.
-ghost use Rattle.std.specs.Prelude.{◌≡◌, pos, [], ◌∷◌, length, ◌≤◌, ◌++◌, OnOk, OnErr};
+ghost use Rattle.std.specs.Prelude.{◌≡◌, ◌↔◌, length, ◌≤◌, ◌++◌, OnOk, OnErr, IfErr, IsTrue};
 ghost use Rattle.xan_lin.specs.Terms.{IsRising};
 ghost use Rattle.xan_lin.specs.Text.{form_text};
-ghost use Rattle.xan_lin.specs.Linear.{sized, sum_of, difference_of, form_of, product_of, negated_row_of};
+ghost use Rattle.xan_lin.specs.Linear.{are_within, sized, sum_of, difference_of, form_of, product_of, negated_row_of, variable_form, NamesBelow};
+ghost use Rattle.xan_lin.specs.Value.{value_of, Holds};
+ghost use Rattle.xan_lin.specs.Subst.{VariablesRise, subst_of};
 
+use crate::bound::all_are_small;
+use crate::evaluate::value_of_all;
 use crate::gather::gathered;
-use crate::merge::{
-    all_are_small, below_negated, held, merged, negated, number_difference, number_sum,
-};
+use crate::merge::{below_negated, held, merged, negated, number_difference, number_sum};
+use crate::product_sum::gathered_products;
+use crate::replace::{constant_after, replaced};
 use crate::scale::{product, scaled};
 use crate::term::{MOST_TERMS, Memory, Term, TooLarge};
 use crate::text::{put_number, put_terms};
+use crate::wide::{cut_wide, is_negative, is_zero, less_word};
 use arrayvec::ArrayVec;
 use std::marker::Model;
 
@@ -44,7 +49,7 @@ impl Form {
 
     /// The form that is the variable.
     pub fn variable(v: u32) -> Form
-        ensures { result ≡ record { terms = record { var = v; coef = pos 1 } ∷ []; constant = pos 0 } }
+        ensures { result ≡ variable_form v }
     {
         let mut terms = ArrayVec::new();
         terms.push(Term { var: v, coef: 1 });
@@ -66,6 +71,7 @@ impl Form {
         ensures terms { result.now ≡ self.now.terms }
         ensures rising { IsRising 0 result.now }
         ensures few { length result.now ≤ 16 }
+        ensures small { IsTrue (are_within self.now.terms self.now.constant) }
     {
         self.terms.as_slice()
     }
@@ -128,11 +134,43 @@ impl Form {
     /// The row `-e - 1` for the row `e`: it holds exactly where `e` does not. It has as many terms as `e`, so that only `Magnitude`
     /// comes, exactly where a number of it is past `BOUND`.
     pub fn negated_row(&self) -> Result<Form, TooLarge>
-        ensures { result ≡ negated_row_of self.now }
+        ensures exact { result ≡ negated_row_of self.now }
+        ensures large { IfErr result (λ error. error ≡ TooLarge.Magnitude) }
     {
         let terms = negated(self.terms.as_slice());
         let constant = below_negated(&self.constant);
         sized_form(terms.as_slice(), &constant)
+    }
+
+    /// The form in which all listed variables are replaced at once, each by the form that stands beside it. A variable that is not
+    /// listed stays where it is less than `below`, and becomes 0 elsewhere. The listed variables rise. `Terms` and `Magnitude` come as
+    /// at `add`.
+    pub fn subst(&self, values: &[(u32, Form)], below: u32) -> Result<Form, TooLarge>
+        requires { VariablesRise 0 values.now }
+        ensures { result ≡ subst_of values.now below self.now }
+    {
+        let products = replaced(self.terms.as_slice(), values, below);
+        let terms = gathered_products(products.as_slice());
+        let constant = constant_after(self.terms.as_slice(), &self.constant, values, below);
+        sized_form(terms.as_slice(), &cut_wide(&constant))
+    }
+
+    /// Whether the row holds, which it does where its exact value is at least 0. The number of a variable is its place in `values`.
+    pub fn eval_row(&self, values: &[i64]) -> bool
+        requires { NamesBelow (length values.now) self.now }
+        ensures { IsTrue result ↔ Holds values.now self.now }
+    {
+        let value = value_of_all(self.terms.as_slice(), &self.constant, values);
+        !is_negative(&value)
+    }
+
+    /// Whether the exact value is the word. The number of a variable is its place in `values`.
+    pub fn eval_is(&self, values: &[i64], word: i64) -> bool
+        requires { NamesBelow (length values.now) self.now }
+        ensures { IsTrue result ↔ (value_of values.now self.now ≡ word) }
+    {
+        let value = value_of_all(self.terms.as_slice(), &self.constant, values);
+        is_zero(&less_word(&value, &word))
     }
 }
 

@@ -4,19 +4,25 @@
 //! that form is too large. The crate stands on `arrayvec` and `itoa`, and no call but `write_form` takes memory.
 #![tactic(auto)]
 
+mod bound;
+mod evaluate;
 mod form;
 mod gather;
 mod laws;
+mod lookup;
 mod merge;
+mod product_sum;
+mod replace;
 mod scale;
 mod term;
 #[cfg(test)]
 mod tests;
 mod text;
+mod wide;
 
 pub use crate::form::Form;
 pub use crate::laws::{
     difference_subtracts_the_values, negated_row_turns_the_value, product_multiplies_the_value,
-    sum_adds_the_values, terms_add_their_values,
+    subst_takes_given_values, subst_takes_the_values, sum_adds_the_values, terms_add_their_values,
 };
 pub use crate::term::{BOUND, LimitKind, Memory, Term, TooLarge};

@@ -1,25 +1,11 @@
-// Sums of rising terms, and tests of numbers.
+// Sums of rising terms.
 ghost use Rattle.std.specs.Prelude.{◌≡◌, ◌+◌, ◌<◌, ◌≤◌, ◌+ℤ◌, ◌-ℤ◌, pos, [], ◌++◌, map, take, neg_ℤ, IsTrue, length};
 ghost use Rattle.arrayvec.specs.ArrayVec.{array_vec_len};
 ghost use Rattle.xan_lin.specs.Terms.{sum_terms, negated_term, negated_terms, with_multiple, IsRising};
-ghost use Rattle.xan_lin.specs.Linear.{is_within, all_within, are_within};
+ghost use Rattle.xan_lin.specs.Linear.{is_within, all_within};
 
 use crate::term::Term;
 use arrayvec::ArrayVec;
-
-// Whether the magnitude is within the bound.
-pub(crate) fn is_small(number: &i64) -> bool
-    ensures { result ≡ is_within number.now }
-{
-    number.unsigned_abs() < 1 << 62
-}
-
-// Whether each coefficient is.
-pub(crate) fn are_small(terms: &[Term]) -> bool
-    ensures { result ≡ all_within terms.now }
-{
-    terms.iter().all(|term| is_small(&term.coef))
-}
 
 // The sum of two numbers within the bound.
 pub(crate) fn number_sum(left: &i64, right: &i64) -> i64
@@ -28,13 +14,6 @@ pub(crate) fn number_sum(left: &i64, right: &i64) -> i64
     ensures { result ≡ left.now +ℤ right.now }
 {
     *left + *right
-}
-
-// Whether each number of these terms and of the constant is within the bound.
-pub(crate) fn all_are_small(terms: &[Term], constant: &i64) -> bool
-    ensures { result ≡ are_within terms.now constant.now }
-{
-    are_small(terms) && is_small(constant)
 }
 
 // The first number less the second.

@@ -1,0 +1,244 @@
+-- What comes of a command, from what came of its parts.
+use Rattle.std.proofs.Common.{◌≡◌, ◌∙◌, inl, inr, ℕ, ◌<◌, ◌≤◌, lit<, List, [], length, Option, None, Some, Result, Ok, Err, refl, sym, ap, subst, arith}
+use Rattle.std.specs.Prelude.{option_map, IfOk, IfErr}
+use Rattle.std.specs.Io.KnownBytes.{append_known}
+use Rattle.xan_io.specs.declared.arg.Arg.{Arg}
+use Rattle.xan_io.specs.Entry.{EntryFault}
+use Rattle.xan_io.specs.Entry as fault
+use Rattle.xan_io.specs.Faults.{Rose}
+use Rattle.xan_io.specs.Outcome.{How, Outcome}
+use Rattle.xan_io.specs.Outcome as how
+use Rattle.xan_io.specs.Written.{AppendsPrefix}
+use Rattle.xan_io.proofs.Puts.{append_known-twice, prefix_behind, prefix_within}
+use Rattle.dtal_code.specs.declared.straight.Straight.{Straight}
+use Rattle.dtal_code.specs.Machine.{State}
+use Rattle.dtal_code.specs.Entry.{straight_fault, straight_entry, straight_outcome}
+use Rattle.dtal_machine.specs.Ending.{HasEnded}
+use Rattle.dtal_machine.specs.Loading.{begins, loaded}
+use Rattle.dtal_machine.specs.Steps.{Loaded, run_on}
+use Rattle.dtal_machine.specs.Typing.{IsAccepted}
+use Rattle.dtal_machine.specs.declared.refusal.Where.{Where}
+use Rattle.dtal_machine.specs.declared.refusal.Rule.{Rule}
+use Rattle.dtal_machine.proofs.Driving.{run-begins, run-live}
+use Rattle.dtal_machine.proofs.Runs.{accepted-ends}
+use Rattle.dtal_driver.specs.declared.answer.Answer.{Answer}
+use Rattle.dtal_driver.specs.declared.answer.Answer.TheVariants as answer
+use Rattle.dtal_driver.specs.declared.run.End.{End}
+use Rattle.dtal_driver.specs.declared.run.End.TheVariants as ends
+use Rattle.dtal_driver.specs.Answers.{line_of, number_lines}
+use Rattle.dtal_driver.specs.Causes.{Accepts, IsRefusedText, Refuses, IsLoaded, IsFaulty, IsLoadedFrom, IsOfText, Cause, NoCommand, ReadFailed, Memory, Told, Says, Went, RunSaid}
+use Rattle.dtal_driver.specs.Report.{Report, plain, heap, depth, steps, end_of, how_of, answer_of, ended, unless_refused, fault_answer, unless_faulty, accepted_report, ReportsOf}
+use Rattle.dtal_driver.specs.Words.{Meant, Verify, Run, text_of}
+
+-- ---- a text
+
+of_refused : (command : Meant) (bytes : List ℕ) (at : Where) (rule : Rule) → IsRefusedText bytes at rule → ReportsOf command bytes (plain (answer.Refused at rule))
+of_refused command bytes at rule r = record {
+  program = r.program;
+  text = r.text;
+  is = ap (λ refused. unless_refused refused (accepted_report command r.program)) r.refused;
+}
+
+-- an answer in place of an accepted program
+pub refuses-cause : (command : Meant) (content : List ℕ → Option (List ℕ)) (reads reads' : List ℕ → ℕ) (said : Answer)
+    → Refuses (content (text_of command)) (reads (text_of command)) (reads' (text_of command)) said → Cause (Some command) content reads reads' (plain said)
+refuses-cause command content reads reads' answer.ReadFailed r = ReadFailed (record { command = command; is = refl; rose = r }) refl
+refuses-cause command content reads reads' answer.Memory r = Memory refl
+refuses-cause command content reads reads' answer.NotBuilt r = Told (record { command = command; is = refl; of_text = tt; told = λ bytes here. inl (r bytes here, refl) })
+refuses-cause command content reads reads' (answer.Refused at rule) r =
+    Told (record { command = command; is = refl; of_text = tt; told = λ bytes here. inr (of_refused command bytes at rule (r bytes here)) })
+refuses-cause command content reads reads' answer.NoCommand r = absurd r
+refuses-cause command content reads reads' (answer.Accepted n) r = absurd r
+refuses-cause command content reads reads' answer.ArgCount r = absurd r
+refuses-cause command content reads reads' (answer.ArgKind n) r = absurd r
+refuses-cause command content reads reads' (answer.ArgIndex n) r = absurd r
+refuses-cause command content reads reads' (answer.EntryRow n) r = absurd r
+refuses-cause command content reads reads' (answer.Returned word) r = absurd r
+refuses-cause command content reads reads' answer.Overflow r = absurd r
+
+or_answer : Answer → Option Report → Answer
+or_answer said None = said
+or_answer said (Some report) = report.answer
+
+fault-of_text : (fault : EntryFault) → IsOfText (fault_answer fault)
+fault-of_text fault.ArgCount = tt
+fault-of_text (fault.ArgKind argument) = tt
+fault-of_text (fault.ArgIndex argument) = tt
+fault-of_text (fault.EntryRow row) = tt
+
+faulty-of_text : (found : Option EntryFault) (said : Answer) → ((more : Option Report) → unless_faulty found more ≡ Some (plain said)) → IsOfText said
+unfolding or_answer
+faulty-of_text None said is = let clash : None ≡ Some (plain said) = is None in cc
+faulty-of_text (Some fault) said is = subst IsOfText (ap (or_answer said) (is None)) (fault-of_text fault)
+
+module _ (content : List ℕ → Option (List ℕ)) (text : List ℕ) (program : Straight) (accepts : Accepts (content text) program) where
+  -- the report of an accepted program is that of its text
+  of_accepted : (command : Meant) (bytes : List ℕ) (report : Report) → content text ≡ Some bytes → accepted_report command program ≡ Some report
+      → ReportsOf command bytes report
+  of_accepted command bytes report here is =
+      let a = accepts.told bytes here in
+      record {
+        program = program;
+        text = a.text;
+        is = ap (λ refused. unless_refused refused (accepted_report command program)) a.not_refused ∙ is;
+      }
+
+  pub verified-cause : (reads reads' : List ℕ → ℕ) (instructions : ℕ) → instructions ≡ length program.code
+      → Cause (Some (Verify text)) content reads reads' (plain (answer.Accepted instructions))
+  verified-cause reads reads' instructions counted = Told (record {
+    command = Verify text;
+    is = refl;
+    of_text = tt;
+    told = λ bytes here.
+        inr (of_accepted (Verify text) bytes (plain (answer.Accepted instructions)) here (ap (λ n. Some (plain (answer.Accepted n))) (sym counted)));
+  })
+
+  module _ (args : List Arg) where
+    pub faulty-cause : (reads reads' : List ℕ → ℕ) (said : Answer) → IsFaulty program args said → Cause (Some (Run text args)) content reads reads' (plain said)
+    faulty-cause reads reads' said (inl memory) = Memory (ap plain memory)
+    faulty-cause reads reads' said (inr fault) = Told (record {
+      command = Run text args;
+      is = refl;
+      of_text = faulty-of_text (straight_fault program args) said fault;
+      told = λ bytes here. inr (of_accepted (Run text args) bytes (plain said) here (fault _));
+    })
+
+    pub loaded-from : (machine : Loaded) → IsLoaded program args machine → IsLoadedFrom text args (content text) machine
+    loaded-from machine loads = record {
+      live = loads.live;
+      ends = loads.ends;
+      told = λ bytes here report is.
+          inr
+          (of_accepted (Run text args) bytes report here
+          (ap (λ fault. unless_faulty fault (ended (straight_outcome program args heap depth steps))) loads.no_fault ∙ ap ended loads.outcome ∙ is));
+    }
+
+-- ---- a machine
+
+no_fault : (program : Straight) (fault : Option EntryFault) (entry : Option State) (machine : Loaded) → begins program fault entry ≡ Ok machine → fault ≡ None
+no_fault program None entry machine e = refl
+no_fault program (Some fault) entry machine e = cc
+
+pub loads : (program : Straight) (args : List Arg) (machine : Loaded) → IsAccepted program → length program.code ≤ 1000
+    → loaded program args heap depth ≡ Ok machine → IsLoaded program args machine
+loads program args machine accepted few e =
+    let none = no_fault program (straight_fault program args) (straight_entry args heap depth) machine e in
+    let outcome = run-begins program args heap depth steps machine e in
+    let some : 0 < depth = lit< tt in
+    let long : length program.code ≤ steps = omega (arith, few) in
+    record {
+      live = run-live program args heap depth machine e;
+      ends = subst (λ (o : Outcome). HasEnded o.how) outcome (accepted-ends program args heap depth steps accepted none some long);
+      no_fault = none;
+      outcome = outcome;
+    }
+
+-- ---- a run
+
+end_of-how : (end : End) → end_of (how_of end) ≡ Some end
+end_of-how (ends.Returned word) = refl
+end_of-how ends.Overflow = refl
+
+end-of_text : (end : End) → IsOfText (answer_of end)
+end-of_text (ends.Returned word) = tt
+end-of_text ends.Overflow = tt
+
+end_is : (how : How) → HasEnded how → (end : End) × (how ≡ how_of end)
+end_is (how.Returned word) ended = (ends.Returned word, refl)
+end_is how.Overflow ended = (ends.Overflow, refl)
+end_is how.NoStore ended = absurd ended
+end_is how.Stuck ended = absurd ended
+end_is how.Running ended = absurd ended
+
+abbrev run_report : Outcome → End → Report
+run_report outcome end = record { printed = outcome.printed; answer = answer_of end }
+
+ended-report : (outcome : Outcome) (end : End) → outcome.how ≡ how_of end → ended outcome ≡ Some (run_report outcome end)
+ended-report outcome end e = ap (λ o. option_map (run_report outcome) o) (ap end_of e ∙ end_of-how end)
+
+module _ (outcome : Outcome) (out mid out' : Option (List ℕ)) (status faults faults' : ℕ) where
+  -- the numbers are put, and then this of the line of the end
+  pub run-said : (end : End) (between : ℕ) → outcome.how ≡ how_of end → mid ≡ append_known out (number_lines outcome.printed) → between ≡ faults
+      → Says (plain (answer_of end)) status between faults' mid out' → RunSaid outcome status faults faults' out out'
+  run-said end between is numbers counted (inl all) = record {
+    report = run_report outcome end;
+    is = ended-report outcome end is;
+    of_text = end-of_text end;
+    said = inl
+        (record {
+          status_is = all.status_is;
+          said = all.said ∙ ap (λ told. append_known told (line_of (answer_of end))) numbers
+              ∙ append_known-twice out (number_lines outcome.printed) (line_of (answer_of end));
+          counted = all.counted ∙ counted;
+        });
+  }
+  run-said end between is numbers counted (inr part) = record {
+    report = run_report outcome end;
+    is = ended-report outcome end is;
+    of_text = end-of_text end;
+    said = inr
+        (record {
+          status_is = part.status_is;
+          part = prefix_behind out out' (number_lines outcome.printed) (line_of (answer_of end))
+              (subst (λ told. AppendsPrefix told out' (line_of (answer_of end))) numbers part.part);
+          rose = subst (λ n. Rose n faults') counted part.rose;
+        });
+  }
+
+  -- only a part of the numbers is put
+  pub run-cut : HasEnded outcome.how → status ≡ 4 → AppendsPrefix out out' (number_lines outcome.printed) → Rose faults faults'
+      → RunSaid outcome status faults faults' out out'
+  run-cut over four part rose =
+      let end = end_is outcome.how over in
+      record {
+        report = run_report outcome end.0;
+        is = ended-report outcome end.0 end.1;
+        of_text = end-of_text end.0;
+        said = inr (record { status_is = four; part = prefix_within out out' (number_lines outcome.printed) (line_of (answer_of end.0)) part; rose = rose });
+      }
+
+-- ---- a command
+
+module _ (meant : Option Meant) (command : Meant) (is : meant ≡ Some command) (content : List ℕ → Option (List ℕ)) (reads reads' : List ℕ → ℕ)
+    (status faults faults' : ℕ) (out out' : Option (List ℕ)) where
+  pub went-said : (said : Answer) → Cause (Some command) content reads reads' (plain said) → Says (plain said) status faults faults' out out'
+      → Went meant content reads reads' status faults faults' out out'
+  went-said said cause says = record {
+    report = plain said;
+    cause = subst (λ m. Cause m content reads reads' (plain said)) (sym is) cause;
+    said = says;
+  }
+
+pub went-run : (meant : Option Meant) (text : List ℕ) (args : List Arg) (content : List ℕ → Option (List ℕ)) (reads reads' : List ℕ → ℕ) (machine : Loaded)
+    (status faults faults' : ℕ) (out out' : Option (List ℕ)) → meant ≡ Some (Run text args) → IsLoadedFrom text args (content text) machine
+    → RunSaid (run_on machine steps []) status faults faults' out out' → Went meant content reads reads' status faults faults' out out'
+went-run meant text args content reads reads' machine status faults faults' out out' is from run = record {
+  report = run.report;
+  cause = Told (record { command = Run text args; is = is; of_text = run.of_text; told = λ bytes here. from.told bytes here run.report run.is });
+  said = run.said;
+}
+
+pub went-as : (meant : Option Meant) (command : Meant) → meant ≡ Some command → (content : List ℕ → Option (List ℕ)) (reads reads' : List ℕ → ℕ)
+    (status faults faults' : ℕ) (out out' : Option (List ℕ)) → Went (Some command) content reads reads' status faults faults' out out'
+    → Went meant content reads reads' status faults faults' out out'
+went-as meant command is content reads reads' status faults faults' out out' went =
+    subst (λ m. Went m content reads reads' status faults faults' out out') (sym is) went
+
+pub went-no_command : (meant : Option Meant) (content : List ℕ → Option (List ℕ)) (reads reads' : List ℕ → ℕ) (status faults faults' : ℕ)
+    (out out' : Option (List ℕ)) → meant ≡ None → Says (plain answer.NoCommand) status faults faults' out out'
+    → Went meant content reads reads' status faults faults' out out'
+went-no_command meant content reads reads' status faults faults' out out' none says = record { report = plain answer.NoCommand; cause = NoCommand none refl; said = says }
+
+pub went-memory : (meant : Option Meant) (content : List ℕ → Option (List ℕ)) (reads reads' : List ℕ → ℕ) (status faults faults' : ℕ)
+    (out out' : Option (List ℕ)) → Says (plain answer.Memory) status faults faults' out out' → Went meant content reads reads' status faults faults' out out'
+went-memory meant content reads reads' status faults faults' out out' says = record { report = plain answer.Memory; cause = Memory refl; said = says }
+
+-- ---- answers
+
+pub if_ok-from : {A B : Type 0} (P Q : A → Type 0) → ((x : A) → P x → Q x) → (r : Result A B) → IfOk r P → IfOk r Q
+if_ok-from {A} {B} P Q from (Ok x) p = from x p
+if_ok-from {A} {B} P Q from (Err e) p = tt
+
+pub if_err-from : {A B : Type 0} (P Q : B → Type 0) → ((e : B) → P e → Q e) → (r : Result A B) → IfErr r P → IfErr r Q
+if_err-from {A} {B} P Q from (Ok x) p = tt
+if_err-from {A} {B} P Q from (Err e) p = from e p

@@ -1,0 +1,6 @@
+pub mod Arguments
+pub mod Commands
+pub mod Promises
+pub mod Reports
+pub mod Running
+pub mod Statuses

@@ -1,0 +1,135 @@
+-- Why a text gives an accepted program, or an answer in its place.
+use Rattle.std.specs.Prelude.{◌≡◌, ◌≤◌, ◌⊎◌, ℕ, List, [], length, Option, Some, None}
+use Rattle.xan_io.specs.Faults.{Rose}
+use Rattle.xan_io.specs.Outcome.{Outcome}
+use Rattle.dtal_code.specs.declared.straight.Straight.{Straight}
+use Rattle.dtal_text.specs.StraightText.{IsStraightText}
+use Rattle.dtal_machine.specs.Typing.{IsAccepted}
+use Rattle.dtal_machine.specs.Refusal.{refusal}
+use Rattle.dtal_machine.specs.declared.refusal.VerifyError.TheVariants as verify
+use Rattle.dtal_machine.specs.declared.refusal.Where.{Where}
+use Rattle.dtal_machine.specs.declared.refusal.Rule.{Rule}
+use Rattle.dtal_driver.specs.declared.answer.Answer.{Answer}
+use Rattle.dtal_driver.specs.declared.answer.Answer.TheVariants as answer
+use Rattle.xan_io.specs.declared.arg.Arg.{Arg}
+use Rattle.xan_io.specs.Written.{AppendsPrefix}
+use Rattle.std.specs.Io.KnownBytes.{append_known}
+use Rattle.dtal_code.specs.Entry.{straight_fault, straight_outcome}
+use Rattle.dtal_machine.specs.Ending.{HasEnded}
+use Rattle.dtal_machine.specs.Steps.{Loaded, IsLive, run_on}
+use Rattle.dtal_driver.specs.Answers.{status_of}
+use Rattle.dtal_driver.specs.Report.{IsNoText, Report, Reports, plain, heap, depth, steps, ended, unless_faulty, report_text}
+use Rattle.dtal_driver.specs.Words.{Meant, Run, text_of}
+
+-- the bytes are the text of this program, which is accepted
+pub record AcceptsBytes (bytes : List ℕ) (program : Straight) : Type 0 where
+  pub text : IsStraightText bytes program
+  pub accepted : IsAccepted program
+  pub not_refused : refusal program ≡ None
+
+-- the bytes are the text of a program that is refused there, by that rule
+pub record IsRefusedText (bytes : List ℕ) (at : Where) (rule : Rule) : Type 0 where
+  pub program : Straight
+  pub text : IsStraightText bytes program
+  pub refused : refusal program ≡ Some (verify.Refused at rule)
+
+-- the answer to bytes that give no accepted program; memory may run out at any time
+abbrev pub RefusesBytes : List ℕ → Answer → Type 0
+RefusesBytes bytes answer.NotBuilt = IsNoText bytes
+RefusesBytes bytes (answer.Refused at rule) = IsRefusedText bytes at rule
+RefusesBytes bytes answer.Memory = Unit {0}
+RefusesBytes bytes _ = ⊥
+
+-- the program is accepted and short, and where the content is told, it is the text of the program
+pub record Accepts (content : Option (List ℕ)) (program : Straight) : Type 0 where
+  pub accepted : IsAccepted program
+  pub few : length program.code ≤ 1000
+  pub told : (bytes : List ℕ) → content ≡ Some bytes → AcceptsBytes bytes program
+
+-- The answer where a name gives no accepted program: the read failed, and its count rose, or where the content is told, its bytes are
+-- refused.
+abbrev pub Refuses : Option (List ℕ) → ℕ → ℕ → Answer → Type 0
+Refuses content faults faults' answer.ReadFailed = Rose faults faults'
+Refuses content faults faults' answer.Memory = Unit {0}
+Refuses content faults faults' answer.NotBuilt = (bytes : List ℕ) → content ≡ Some bytes → IsNoText bytes
+Refuses content faults faults' (answer.Refused at rule) = (bytes : List ℕ) → content ≡ Some bytes → IsRefusedText bytes at rule
+Refuses content faults faults' _ = ⊥
+
+-- ---- machines
+
+-- the machine is at the start of the program's run on these arguments, which have no fault, and this run ends
+pub record IsLoaded (program : Straight) (args : List Arg) (machine : Loaded) : Type 0 where
+  pub live : IsLive machine.now
+  pub ends : HasEnded (run_on machine steps []).how
+  pub no_fault : straight_fault program args ≡ None
+  pub outcome : straight_outcome program args heap depth steps ≡ run_on machine steps []
+
+-- the answer is the first fault of the arguments, or memory ran out
+abbrev pub IsFaulty : Straight → List Arg → Answer → Type 0
+IsFaulty program args said = (said ≡ answer.Memory) ⊎ ((more : Option Report) → unless_faulty (straight_fault program args) more ≡ Some (plain said))
+
+-- the machine is at the start of a run, and where the content is told, its run is reported of the text
+pub record IsLoadedFrom (text : List ℕ) (args : List Arg) (content : Option (List ℕ)) (machine : Loaded) : Type 0 where
+  pub live : IsLive machine.now
+  pub ends : HasEnded (run_on machine steps []).how
+  pub told : (bytes : List ℕ) → content ≡ Some bytes → (report : Report) → ended (run_on machine steps []) ≡ Some report → Reports (Run text args) bytes report
+
+-- ---- whole commands
+
+-- the count of failed reads of the command's text rose, by the counts of all names before and after
+pub record TextRose (meant : Option Meant) (reads reads' : List ℕ → ℕ) : Type 0 where
+  pub command : Meant
+  pub is : meant ≡ Some command
+  pub rose : Rose (reads (text_of command)) (reads' (text_of command))
+
+-- the answer is one that depends on the text
+abbrev pub IsOfText : Answer → Type 0
+IsOfText answer.NoCommand = ⊥
+IsOfText answer.ReadFailed = ⊥
+IsOfText answer.Memory = ⊥
+IsOfText _ = Unit {0}
+
+-- the answer depends on the text, and where the content of the command's text is told, this is what is reported of it
+pub record Tells (meant : Option Meant) (content : List ℕ → Option (List ℕ)) (report : Report) : Type 0 where
+  pub command : Meant
+  pub is : meant ≡ Some command
+  pub of_text : IsOfText report.answer
+  pub told : (bytes : List ℕ) → content (text_of command) ≡ Some bytes → Reports command bytes report
+
+-- Why this comes of the words: they mean nothing, the read failed, memory ran out, or it is what is reported of the text.
+pub data Cause (meant : Option Meant) (content : List ℕ → Option (List ℕ)) (reads reads' : List ℕ → ℕ) (report : Report) : Type 0 where
+  NoCommand : (meant ≡ None) → (report ≡ plain answer.NoCommand) → Cause meant content reads reads' report
+  ReadFailed : TextRose meant reads reads' → (report ≡ plain answer.ReadFailed) → Cause meant content reads reads' report
+  Memory : (report ≡ plain answer.Memory) → Cause meant content reads reads' report
+  Told : Tells meant content report → Cause meant content reads reads' report
+
+-- ---- what is said
+
+-- all of it was put, and the status is its own
+pub record SaidAll (report : Report) (status faults faults' : ℕ) (out out' : Option (List ℕ)) : Type 0 where
+  pub status_is : status ≡ status_of report.answer
+  pub said : out' ≡ append_known out (report_text report)
+  pub counted : faults' ≡ faults
+
+-- a part of it was put, and the count of faults rose
+pub record SaidPart (report : Report) (status faults faults' : ℕ) (out out' : Option (List ℕ)) : Type 0 where
+  pub status_is : status ≡ 4
+  pub part : AppendsPrefix out out' (report_text report)
+  pub rose : Rose faults faults'
+
+abbrev pub Says : Report → ℕ → ℕ → ℕ → Option (List ℕ) → Option (List ℕ) → Type 0
+Says report status faults faults' out out' = SaidAll report status faults faults' out out' ⊎ SaidPart report status faults faults' out out'
+
+-- how a command went: what came of it, why, and how much of it was said
+pub record Went (meant : Option Meant) (content : List ℕ → Option (List ℕ)) (reads reads' : List ℕ → ℕ) (status faults faults' : ℕ) (out out' : Option (List ℕ))
+    : Type 0 where
+  pub report : Report
+  pub cause : Cause meant content reads reads' report
+  pub said : Says report status faults faults' out out'
+
+-- how a run went, which came to this outcome
+pub record RunSaid (outcome : Outcome) (status faults faults' : ℕ) (out out' : Option (List ℕ)) : Type 0 where
+  pub report : Report
+  pub is : ended outcome ≡ Some report
+  pub of_text : IsOfText report.answer
+  pub said : Says report status faults faults' out out'

@@ -1,0 +1,5 @@
+pub mod Answers
+pub mod Causes
+pub mod Promises
+pub mod Report
+pub mod Words

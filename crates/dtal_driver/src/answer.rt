@@ -1,0 +1,53 @@
+//! The answers of the program, and the status of each.
+
+ghost use Rattle.std.specs.Prelude.{◌≡◌};
+ghost use Rattle.dtal_driver.specs.Answers.{status_of};
+
+use dtal_machine::{Rule, Where};
+
+/// How a command came out, in the order in which it may end. Arguments and rows are numbered from 1.
+#[derive(Clone, Copy, Debug, PartialEq, Eq)]
+pub enum Answer {
+    /// The words are no command.
+    NoCommand,
+    /// The text could not be read.
+    ReadFailed,
+    /// Memory ran out.
+    Memory,
+    /// The text is of no form that is built yet.
+    NotBuilt,
+    /// The program is not accepted: the first place that refuses, and its rule.
+    Refused { at: Where, rule: Rule },
+    /// The program is accepted, and has so many instructions.
+    Accepted(u32),
+    /// Another number of arguments than of parameters.
+    ArgCount,
+    /// The argument is of another kind than the parameter.
+    ArgKind(u32),
+    /// The argument's index is not the parameter's.
+    ArgIndex(u32),
+    /// A row of the entry does not hold.
+    EntryRow(u32),
+    /// The run has ended with this number.
+    Returned(i64),
+    /// The run has ended since a result does not fit a word.
+    Overflow,
+}
+
+impl Answer {
+    /// The status that the program ends with.
+    pub fn status(self) -> u8
+        ensures { result ≡ status_of self }
+    {
+        match self {
+            Answer::Accepted(_) | Answer::Returned(_) => 0,
+            Answer::NoCommand => 2,
+            Answer::ReadFailed => 3,
+            Answer::Memory => 6,
+            Answer::Refused { .. } => 11,
+            Answer::ArgCount | Answer::ArgKind(_) | Answer::ArgIndex(_) | Answer::EntryRow(_) => 12,
+            Answer::Overflow => 14,
+            Answer::NotBuilt => 20,
+        }
+    }
+}

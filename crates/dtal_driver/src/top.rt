@@ -1,0 +1,193 @@
+//! The whole program: words in, a status out.
+
+ghost use Rattle.std.specs.Prelude.{◌≡◌, ◌≢◌, ◌<◌, ◌≤◌, ◌⊎◌, ℕ, List, length, Some, None, [], IfOk, IfErr};
+ghost use Rattle.xan_io.specs.Faults.{Rose};
+ghost use Rattle.dtal_machine.specs.Ending.{HasEnded};
+ghost use Rattle.dtal_machine.specs.Steps.{IsLive, run_on};
+ghost use Rattle.dtal_machine.specs.Refusal.{IsRefused};
+ghost use Rattle.dtal_machine.specs.Typing.{IsAccepted};
+ghost use Rattle.dtal_code.specs.declared.straight.Straight.{Straight};
+ghost use Rattle.dtal_text.specs.StraightText.{IsStraightText};
+ghost use Rattle.std.specs.Io.KnownBytes.{append_known};
+ghost use Rattle.xan_io.specs.declared.arg.Arg.{Arg};
+ghost use Rattle.dtal_driver.specs.Answers.{status_of, line_of};
+ghost use Rattle.dtal_driver.specs.Promises.{IsStatus, OfText, RefusedAt, FaultyAt, RanTo, Ran, AcceptedText, Said, SaidInPart};
+ghost use Rattle.dtal_driver.specs.Causes.{Cause, TextRose, IsLoaded, IsFaulty, IsLoadedFrom, Says, Went, RunSaid};
+ghost use Rattle.dtal_driver.specs.Report.{Report, Reports, IsNoText, plain, report_text, steps};
+ghost use Rattle.dtal_driver.specs.Words.{Meant, words_mean, texts, text_of, Verify, Run};
+
+use crate::answer::Answer;
+use crate::lines::put_line;
+use crate::run::{End, run};
+use crate::text::accepted_program;
+use crate::words::{Command, WordsError, read_command};
+use dtal_code::one_program_a_text;
+use dtal_machine::{LoadError, Machine, Rule, Verified, Where};
+use std::alloc::Global;
+use xan_io::{Arg, Files, Sink};
+
+/// The words that the store of a run may have.
+const HEAP: u64 = 1_048_576;
+
+/// The activations that a run may have at once.
+const DEPTH: u64 = 4096;
+
+/// The status where `out` failed; nothing more can be said then.
+const CUT: u8 = 4;
+
+/// Does what the words ask for, says how it came out on `out`, and answers the status to end with.
+pub fn dtal_top<F: Files, O: Sink>(alloc: Global, words: &[&str], files: &mut F, out: &mut O) -> u8
+    ensures statuses { IsStatus result }
+
+    // 2, exactly where the words mean nothing, unless memory ran out; but a fault of `out` goes before all else.
+    ensures no_command { result ≡ 2 → words_mean (texts words.now) ≡ None }
+    ensures words { words_mean (texts words.now) ≡ None → result ≢ 4 → result ≢ 6 → result ≡ 2 }
+
+    // 3, only where the count of the text rose; 4, only where that of `out` rose, and wherever it grew.
+    ensures read_failed { result ≡ 3 → TextRose (words_mean (texts words.now)) (F.read_faults files.old) (F.read_faults files.new) }
+    ensures put_failed { result ≡ 4 → Rose (O.faults out.old) (O.faults out.new) }
+    ensures put_rises { O.faults out.old < O.faults out.new → result ≡ 4 }
+
+    // 20, 11, 12 and 14, by what the text holds; the clause `complete` says when they come.
+    ensures not_straight { result ≡ 20 → OfText (words_mean (texts words.now)) (F.content files.old) (λ command bytes. IsNoText bytes) }
+    ensures refused { result ≡ 11 → OfText (words_mean (texts words.now)) (F.content files.old) (λ command bytes. RefusedAt bytes (O.written out.old) (O.written out.new)) }
+    ensures faults { result ≡ 12 → OfText (words_mean (texts words.now)) (F.content files.old) (λ command bytes. FaultyAt command bytes (O.written out.old) (O.written out.new)) }
+    ensures overflow { result ≡ 14 → OfText (words_mean (texts words.now)) (F.content files.old) (λ command bytes. RanTo command bytes End.Overflow (O.written out.old) (O.written out.new)) }
+
+    // No name holds anything else afterwards.
+    ensures unchanged { (name : List ℕ) → F.content files.new name ≡ F.content files.old name }
+
+    // What is said: whole lines, for a cause; after 4 a part of them. Nothing goes before the line of 6, since a run wants no memory.
+    ensures said { result ≢ 4 → Said (words_mean (texts words.now)) (F.content files.old) (F.read_faults files.old) (F.read_faults files.new) result (O.written out.old) (O.written out.new) }
+    ensures cut { result ≡ 4 → SaidInPart (words_mean (texts words.now)) (F.content files.old) (F.read_faults files.old) (F.read_faults files.new) (O.written out.old) (O.written out.new) }
+    ensures memory { result ≡ 6 → O.written out.new ≡ append_known (O.written out.old) (line_of Answer.Memory) }
+
+    // What `verify` accepts is safe in every run, and what `run` says is the output of the run.
+    ensures accepted { (name bytes : List ℕ) → words_mean (texts words.now) ≡ Some (Verify name) → F.content files.old name ≡ Some bytes
+        → result ≡ 0 → AcceptedText bytes (O.written out.old) (O.written out.new) }
+    ensures ran { (name bytes : List ℕ) (args : List Arg) → words_mean (texts words.now) ≡ Some (Run name args) → F.content files.old name ≡ Some bytes
+        → (result ≡ 0) ⊎ (result ≡ 14) → Ran (Run name args) bytes result (O.written out.old) (O.written out.new) }
+
+    // The status and the lines are those of the report, unless a call of the outside fails or memory runs out.
+    ensures reported { (command : Meant) (bytes : List ℕ) (report : Report) → words_mean (texts words.now) ≡ Some command
+        → F.content files.old (text_of command) ≡ Some bytes → Reports command bytes report → result ≢ 3 → result ≢ 4 → result ≢ 6
+        → (result ≡ status_of report.answer) × (O.written out.new ≡ append_known (O.written out.old) (report_text report)) }
+    ensures complete { (command : Meant) (bytes : List ℕ) (report : Report) → words_mean (texts words.now) ≡ Some command
+        → F.content files.old (text_of command) ≡ Some bytes → Reports command bytes report
+        → (Rose (F.read_faults files.old (text_of command)) (F.read_faults files.new (text_of command)) → ⊥)
+        → (Rose (O.faults out.old) (O.faults out.new) → ⊥) → (result ≡ status_of report.answer) ⊎ (result ≡ 6) }
+
+    // So `verify` answers 0 where the program is accepted, and 11 where it is refused.
+    ensures accepts { (name bytes : List ℕ) (program : Straight) → words_mean (texts words.now) ≡ Some (Verify name)
+        → F.content files.old name ≡ Some bytes → IsStraightText bytes program → IsAccepted program
+        → (Rose (F.read_faults files.old name) (F.read_faults files.new name) → ⊥)
+        → (Rose (O.faults out.old) (O.faults out.new) → ⊥) → (result ≡ 0) ⊎ (result ≡ 6) }
+    ensures refuses { (name bytes : List ℕ) (program : Straight) (at : Where) (rule : Rule) → words_mean (texts words.now) ≡ Some (Verify name)
+        → F.content files.old name ≡ Some bytes → IsStraightText bytes program → IsRefused program at rule
+        → (Rose (F.read_faults files.old name) (F.read_faults files.new name) → ⊥)
+        → (Rose (O.faults out.old) (O.faults out.new) → ⊥) → (result ≡ 11) ⊎ (result ≡ 6) }
+{
+    // Cites the law: a text spells no other program.
+    one_program_a_text();
+    execute(alloc, words, files, out)
+}
+
+/// Does what the words ask for, and says how it came out.
+fn execute<F: Files, O: Sink>(alloc: Global, words: &[&str], files: &mut F, out: &mut O) -> u8
+    ensures unchanged { (name : List ℕ) → F.content files.new name ≡ F.content files.old name }
+    ensures went { Went (words_mean (texts words.now)) (F.content files.old) (F.read_faults files.old) (F.read_faults files.new)
+        result (O.faults out.old) (O.faults out.new) (O.written out.old) (O.written out.new) }
+{
+    match read_command(alloc, words) {
+        Ok(Command::Verify(text)) => say(out, verify_text(alloc, files, text)),
+        Ok(Command::Run(text, args)) => run_text(alloc, files, out, text, args.as_slice()),
+        Err(WordsError::NoCommand) => say(out, Answer::NoCommand),
+        Err(WordsError::Memory) => say(out, Answer::Memory),
+    }
+}
+
+/// Runs the program of a text on these arguments, and says how it came out.
+fn run_text<F: Files, O: Sink>(
+    alloc: Global,
+    files: &mut F,
+    out: &mut O,
+    text: &str,
+    args: &[Arg],
+) -> u8
+    ensures unchanged { (name : List ℕ) → F.content files.new name ≡ F.content files.old name }
+    ensures went { Went (Some (Run text.now args.now)) (F.content files.old) (F.read_faults files.old) (F.read_faults files.new)
+        result (O.faults out.old) (O.faults out.new) (O.written out.old) (O.written out.new) }
+{
+    match load_text(alloc, files, text, args) {
+        Ok(machine) => run_and_say(machine, out),
+        Err(answer) => say(out, answer),
+    }
+}
+
+/// What is said of a text that is verified.
+fn verify_text<F: Files>(alloc: Global, files: &mut F, text: &str) -> Answer
+    ensures unchanged { (name : List ℕ) → F.content files.new name ≡ F.content files.old name }
+    ensures caused { Cause (Some (Verify text.now)) (F.content files.old) (F.read_faults files.old) (F.read_faults files.new) (plain result) }
+{
+    match accepted_program(alloc, files, text) {
+        Ok(verified) => Answer::Accepted(verified.program().code.as_slice().len() as u32),
+        Err(answer) => answer,
+    }
+}
+
+/// The machine of a text, at the start of a run on these arguments, or the answer where there is none.
+fn load_text<F: Files>(
+    alloc: Global,
+    files: &mut F,
+    text: &str,
+    args: &[Arg],
+) -> Result<Machine, Answer>
+    ensures unchanged { (name : List ℕ) → F.content files.new name ≡ F.content files.old name }
+    ensures loaded { IfOk result (IsLoadedFrom text.now args.now (F.content files.old text.now)) }
+    ensures caused { IfErr result (λ answer. Cause (Some (Run text.now args.now)) (F.content files.old) (F.read_faults files.old) (F.read_faults files.new) (plain answer)) }
+{
+    match accepted_program(alloc, files, text) {
+        Ok(verified) => load(alloc, verified, args),
+        Err(answer) => Err(answer),
+    }
+}
+
+/// The machine of a program, at the start of a run on these arguments, or the first fault of these. It takes all memory of the run.
+fn load(alloc: Global, program: Verified, args: &[Arg]) -> Result<Machine, Answer>
+    requires accepted { IsAccepted program }
+    requires few { length program.code ≤ 1000 }
+    ensures loaded { IfOk result (IsLoaded program args.now) }
+    ensures faulty { IfErr result (IsFaulty program args.now) }
+{
+    match Machine::load(alloc, program, args, HEAP, DEPTH) {
+        Ok(machine) => Ok(machine),
+        Err(LoadError::ArgCount) => Err(Answer::ArgCount),
+        Err(LoadError::ArgKind(argument)) => Err(Answer::ArgKind(argument)),
+        Err(LoadError::ArgIndex(argument)) => Err(Answer::ArgIndex(argument)),
+        Err(LoadError::EntryRow(row)) => Err(Answer::EntryRow(row)),
+        Err(LoadError::NoStore) => unreachable!(),
+        Err(LoadError::Memory) => Err(Answer::Memory),
+    }
+}
+
+/// Runs the machine, and says how the run ended. It takes no memory.
+fn run_and_say<O: Sink>(machine: Machine, out: &mut O) -> u8
+    requires live { IsLive machine.now }
+    requires ends { HasEnded (run_on machine steps []).how }
+    ensures said { RunSaid (run_on machine steps []) result (O.faults out.old) (O.faults out.new) (O.written out.old) (O.written out.new) }
+{
+    match run(machine, out) {
+        Ok(end) => say(out, end.answer()),
+        Err(_fault) => CUT,
+    }
+}
+
+/// Puts the answer's line, and gives its status, or 4 where the line was not put whole.
+fn say<O: Sink>(out: &mut O, answer: Answer) -> u8
+    ensures said { Says (plain answer) result (O.faults out.old) (O.faults out.new) (O.written out.old) (O.written out.new) }
+{
+    match put_line(out, answer) {
+        Ok(()) => answer.status(),
+        Err(_fault) => CUT,
+    }
+}

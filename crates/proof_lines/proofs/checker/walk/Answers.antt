@@ -1,0 +1,28 @@
+use Rattle.std.proofs.Common.{sym, ap, ◌∙◌, arith}
+use Rattle.proof_lines.proofs.Walking.{walks_none, rows_behind, cells-long, from_line, walks_more, walks_all}
+use Rattle.proof_lines.proofs.checker.walk.Goals as goal
+
+pub lines-init : goal.lines-init
+lines-init c = walks_none _ _ _ _ _ _ c.mark-base.ensures.live c.new-columns.ensures
+
+pub put-requires-clause-width : goal.put-requires-clause-width
+put-requires-clause-width c =
+    cells-long _ _ _ _ (c.in-Ok.ensures _ (rows_behind _ _ _ _ _ _ _ _ c.lines.invariant))
+    ∙ sym (ap (λ p. p.width) c.lines.invariant.pool_is ∙ c.requires.width)
+
+pub returns-in-Err-clause-answer : goal.returns-in-Err-clause-answer
+returns-in-Err-clause-answer c =
+    from_line _ _ _ _ _ _ _ _ _ _ c.lines.invariant c.lines-test.true c.index-lines-at.is (c.in-Err.ensures _ (rows_behind _ _ _ _ _ _ _ _ c.lines.invariant))
+
+pub lines-preserved : goal.lines-preserved
+lines-preserved c =
+    walks_more _ _ _ _ _ _ _ _ _ _ _ _ c.lines.invariant c.lines-test.true c.index-lines-at.is
+    (c.in-Ok.ensures _ (rows_behind _ _ _ _ _ _ _ _ c.lines.invariant)) c.put.ensures
+
+pub returns-then-ends_refuted-clause-answer : goal.returns-then-ends_refuted-clause-answer
+returns-then-ends_refuted-clause-answer c =
+    walks_all _ _ _ _ _ _ _ _ _ c.lines.invariant (omega arith) (omega arith) (sym c.if-ends_refuted.true ∙ c.ends_refuted.ensures)
+
+pub returns-else-ends_refuted-clause-answer : goal.returns-else-ends_refuted-clause-answer
+returns-else-ends_refuted-clause-answer c =
+    walks_all _ _ _ _ _ _ _ _ _ c.lines.invariant (omega arith) (omega arith) (sym c.if-ends_refuted.false ∙ c.ends_refuted.ensures)

@@ -1,0 +1,5 @@
+use Rattle.proof_lines.proofs.Walking.{Walking}
+use Rattle.proof_lines.proofs.checker.walk.Given as goal
+
+abbrev pub invariant-lines : goal.invariant-lines
+invariant-lines l = Walking l.hyps l.goal l.lines l.fn.pool l.pool l.base l.columns l.at

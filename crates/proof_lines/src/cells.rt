@@ -1,0 +1,107 @@
+// Rows as 65 cells: one for each column of a variable, and the constant.
+ghost use Rattle.std.specs.Prelude.{◌≡◌, ◌<◌, ◌≤◌, ◌&&◌, ◌∷◌, ◌++◌, [], pos, true, false, IsTrue, MatchOption, length, take, map, nat_lt, int_lt};
+ghost use Rattle.std.specs.List.{list_all, slice_index_or};
+ghost use Rattle.arrayvec.specs.ArrayVec.{array_vec_len};
+ghost use Rattle.xan_lin.specs.Terms.{IsRising};
+ghost use Rattle.xan_lin.specs.Linear.{is_within};
+ghost use Rattle.proof_lines.specs.Rows.{floor_over, is_multiple};
+ghost use Rattle.proof_lines.specs.Variables.{with_terms};
+ghost use Rattle.proof_lines.specs.Check.{is_positive};
+ghost use Rattle.proof_lines.specs.Cells.{AreDifferent, dense, is_zero, combined_cells, cannot_hold};
+
+use crate::columns::{Columns, MOST_COLUMNS};
+use crate::row::{number_combination, number_divides, number_floor};
+use arrayvec::ArrayVec;
+use xan_lin::Term;
+
+/// The cells of a row: those of the variables by their columns, and the constant.
+pub(crate) type Cells = ArrayVec<i64, 65>;
+
+/// How many cells a row has.
+pub(crate) const WIDTH: usize = MOST_COLUMNS + 1;
+
+/// The cells of the row of these terms and this constant, where its variables find columns.
+pub(crate) fn spread(columns: &mut Columns, terms: &[Term], constant: &i64) -> Option<Cells>
+    requires rising { IsRising 0 terms.now }
+    requires few { length columns.old ≤ 64 }
+    requires different { AreDifferent columns.old }
+    ensures { MatchOption result (nat_lt 64 (length (with_terms columns.old terms.now)) ≡ true)
+        (λ cells. (columns.new ≡ with_terms columns.old terms.now) × (length columns.new ≤ 64) × AreDifferent columns.new
+        × (cells.items ≡ dense columns.new (record { terms = terms.now; constant = constant.now }))) }
+{
+    let mut cells = [0i64; WIDTH];
+    cells[MOST_COLUMNS] = *constant;
+    'terms: for term in terms {
+        let Some(column) = columns.column(term.var) else {
+            return None;
+        };
+        cells[column] = term.coef;
+    }
+    Some(ArrayVec::from(cells))
+}
+
+/// The sum of two rows, each times a multiplier of at least 1, where all its numbers are within the bound of forms.
+pub(crate) fn combined(left: &[i64], left_by: &i64, right: &[i64], right_by: &i64) -> Option<Cells>
+    requires left { length left.now ≡ 65 }
+    requires right { length right.now ≡ 65 }
+    requires left_by { IsTrue (is_positive left_by.now) }
+    requires right_by { IsTrue (is_positive right_by.now) }
+    ensures { MatchOption result (list_all is_within (combined_cells left_by.now left.now right_by.now right.now) ≡ false)
+        (λ cells. (cells.items ≡ combined_cells left_by.now left.now right_by.now right.now) × (list_all is_within cells.items ≡ true)) }
+{
+    let mut made = ArrayVec::new();
+    'cells: for place in 0..WIDTH {
+        let Some(cell) = number_combination(&left[place], left_by, &right[place], right_by) else {
+            return None;
+        };
+        made.push(cell);
+    }
+    Some(made)
+}
+
+/// Whether the divisor divides the coefficients of the row.
+pub(crate) fn divides_coefficients(by: &i64, row: &[i64]) -> bool
+    requires positive { IsTrue (is_positive by.now) }
+    requires width { length row.now ≡ 65 }
+    ensures { result ≡ list_all (is_multiple by.now) (take 64 row.now) }
+{
+    row[..MOST_COLUMNS]
+        .iter()
+        .all(|cell| number_divides(by, cell))
+}
+
+/// The floors of the numbers of the row over the divisor.
+pub(crate) fn divided(row: &[i64], by: &i64) -> Cells
+    requires positive { IsTrue (is_positive by.now) }
+    requires width { length row.now ≡ 65 }
+    ensures { result.items ≡ map (λ cell. floor_over cell by.now) row.now }
+{
+    let mut made = ArrayVec::new();
+    'cells: for cell in row {
+        made.push(number_floor(cell, by));
+    }
+    made
+}
+
+/// Whether the row has no variable and a negative constant.
+pub(crate) fn is_impossible(row: &[i64]) -> bool
+    requires { length row.now ≡ 65 }
+    ensures { result ≡ cannot_hold row.now }
+{
+    has_no_variable(row) && is_negative(&row[MOST_COLUMNS])
+}
+
+// Whether all coefficients of the row are 0.
+fn has_no_variable(row: &[i64]) -> bool
+    requires { length row.now ≡ 65 }
+    ensures { result ≡ list_all is_zero (take 64 row.now) }
+{
+    row[..MOST_COLUMNS].iter().all(|cell| *cell == 0)
+}
+
+// Whether the number is below 0.
+fn is_negative(number: &i64) -> bool
+    ensures { result ≡ int_lt number.now (pos 0) }
+{
+    *number < 0
+}
