@@ -16,7 +16,12 @@ fn built_and(
     let mut files = MemFiles::new(alloc, Vec::new(alloc));
     files.set("one.xan", source)?;
     let mut out = MemSink::new(alloc, 1000, Vec::new(alloc))?;
-    let built = xanadu_top(alloc, &["build", "one.xan", "one.dtal"], &mut files, &mut out);
+    let built = xanadu_top(
+        alloc,
+        &["build", "one.xan", "one.dtal"],
+        &mut files,
+        &mut out,
+    );
     let mut out = MemSink::new(alloc, 1000, Vec::new(alloc))?;
     let found = dtal_top(alloc, words, &mut files, &mut out);
     Ok(built == 0 && found == status && out.bytes() == said)
