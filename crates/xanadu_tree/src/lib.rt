@@ -9,6 +9,7 @@ mod linear;
 mod program;
 mod small;
 mod stmt;
+mod tree;
 mod types;
 
 pub use expr::{CoreExpr, Op, Rel};
@@ -16,4 +17,9 @@ pub use linear::Linear;
 pub use program::{Core, CoreFun};
 pub use small::number_program;
 pub use stmt::{Clause, CoreStmt, Test};
+pub use tree::{
+    Binder, Block, Comparison, Conjunction, Declaration, Element, Expression, FunctionDeclaration, Identifier, IndexExpression,
+    IndexRelation, IndexTerm, Negation, Parameter, Postfix, Primary, Product, Quantifier, Relation, ResultType, Sign, Sort,
+    Statement, Sum, Tree, Type, TypeBody, TypeDeclaration, Unary, WrittenClause,
+};
 pub use types::{CoreTy, Kind, Packing, Quant};
