@@ -1,3 +1,5 @@
 pub mod Plain
 pub mod PlainOf
+pub mod PlainTree
+pub mod PlainTreeOf
 pub mod Small
