@@ -1,5 +1,9 @@
+pub mod Nesting
+pub mod Pieces
 pub mod Plain
 pub mod PlainOf
 pub mod PlainTree
 pub mod PlainTreeOf
 pub mod Small
+pub mod Spelling
+pub mod Written
