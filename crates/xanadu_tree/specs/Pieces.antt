@@ -58,10 +58,14 @@ abbrev pub HaveTexts : List TokenKind → Type 0
 HaveTexts [] = Unit {0}
 HaveTexts (kind ∷ more) = HasText kind × HaveTexts more
 
--- the text of each kind, and a space behind each
-abbrev pub spaced : List TokenKind → List ℕ
-spaced [] = []
-spaced (kind ∷ more) = spelled kind ++ 32 ∷ spaced more
+-- the text of a token, and a space behind it
+unfoldable pub shown : TokenKind → List ℕ
+shown kind = spelled kind ++ 32 ∷ []
+
+-- the text of each, in order
+abbrev pub text : List Piece → List ℕ
+text [] = []
+text (piece ∷ pieces) = shown piece.kind ++ text pieces
 
 -- ---- lists with commas
 
