@@ -7,3 +7,4 @@ pub mod PlainTreeOf
 pub mod Small
 pub mod Spelling
 pub mod Written
+pub mod Printing

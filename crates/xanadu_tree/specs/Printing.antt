@@ -1,0 +1,94 @@
+-- The text of each part of a tree in memory: the text of the pieces that spell it.
+use Rattle.std.specs.Prelude.{ℕ, List, [], ◌∷◌, ◌++◌, map, Option, Box}
+use Rattle.std.specs.Option.{option_map}
+use Rattle.std.specs.declared.alloc.Global.{Global}
+use Rattle.xanadu_lexer.specs.declared.symbol.Symbol.TheVariants as symbol
+use Rattle.xanadu_tree.specs.declared.expr.Op.{Op}
+use Rattle.xanadu_tree.specs.declared.expr.Rel.{Rel}
+use Rattle.xanadu_tree.specs.declared.tree.declaration.Declaration.{Declaration}
+use Rattle.xanadu_tree.specs.declared.tree.declaration.Parameter.{Parameter}
+use Rattle.xanadu_tree.specs.declared.tree.declaration.ResultType.{ResultType}
+use Rattle.xanadu_tree.specs.declared.tree.declaration.Tree.{Tree}
+use Rattle.xanadu_tree.specs.declared.tree.declaration.TypeBody.{TypeBody}
+use Rattle.xanadu_tree.specs.declared.tree.expression.Comparison.{Comparison}
+use Rattle.xanadu_tree.specs.declared.tree.expression.Conjunction.{Conjunction}
+use Rattle.xanadu_tree.specs.declared.tree.expression.Expression.{Expression}
+use Rattle.xanadu_tree.specs.declared.tree.expression.Negation.{Negation}
+use Rattle.xanadu_tree.specs.declared.tree.expression.Postfix.{Postfix}
+use Rattle.xanadu_tree.specs.declared.tree.expression.Primary.{Primary}
+use Rattle.xanadu_tree.specs.declared.tree.expression.Product.{Product}
+use Rattle.xanadu_tree.specs.declared.tree.expression.Sum.{Sum}
+use Rattle.xanadu_tree.specs.declared.tree.expression.Unary.{Unary}
+use Rattle.xanadu_tree.specs.declared.tree.index.IndexExpression.{IndexExpression}
+use Rattle.xanadu_tree.specs.declared.tree.index.Quantifier.{Quantifier}
+use Rattle.xanadu_tree.specs.declared.tree.index.Relation.{Relation}
+use Rattle.xanadu_tree.specs.declared.tree.statement.Block.{Block}
+use Rattle.xanadu_tree.specs.declared.tree.statement.Statement.{Statement}
+use Rattle.xanadu_tree.specs.declared.tree.statement.WrittenClause.{WrittenClause}
+use Rattle.xanadu_tree.specs.declared.tree.types.Type as written
+use Rattle.xanadu_tree.specs.PlainTreeOf.{to_conjunctions, to_negations, to_comparand, to_addends, to_factors, to_branch, to_statements, plain_index, plain_relation, plain_quantifier, plain_type, plain_parameter, plain_expression, plain_conjunction, plain_negation, plain_comparison, plain_sum, plain_product, plain_unary, plain_postfix, plain_primary, plain_indices, plain_expressions, plain_clause, plain_statement, plain_block, plain_type_body, plain_result, plain_declaration, plain_tree}
+use Rattle.xanadu_tree.specs.Pieces.{mark, text}
+use Rattle.xanadu_tree.specs.Spelling.{index_pieces, relation_pieces, quantifier_pieces, type_pieces, parameter_pieces, clause_pieces, expression_pieces, conjunctions_pieces, conjunction_pieces, negations_pieces, negation_pieces, comparison_pieces, comparand_pieces, sum_pieces, addends_pieces, product_pieces, factors_pieces, unary_pieces, postfix_pieces, indices_pieces, primary_pieces, arguments_pieces, more_arguments_pieces, statement_pieces, branch_pieces, block_pieces, statements_pieces, type_body_pieces, result_pieces, declaration_pieces, declarations_pieces, pieces}
+
+-- ---- expressions
+
+unfoldable pub expression_text : Expression → List ℕ
+expression_text e = text (expression_pieces (plain_expression e))
+
+unfoldable pub conjunctions_text : List (Conjunction × ℕ) → List ℕ
+conjunctions_text cs = text (conjunctions_pieces (to_conjunctions (map (λ c. (plain_conjunction c.0, c.1)) cs)))
+
+unfoldable pub conjunction_text : Conjunction → List ℕ
+conjunction_text c = text (conjunction_pieces (plain_conjunction c))
+
+unfoldable pub negations_text : List (Negation × ℕ) → List ℕ
+negations_text ns = text (negations_pieces (to_negations (map (λ n. (plain_negation n.0, n.1)) ns)))
+
+unfoldable pub negation_text : Negation → List ℕ
+negation_text n = text (negation_pieces (plain_negation n))
+
+unfoldable pub comparison_text : Comparison → List ℕ
+comparison_text c = text (comparison_pieces (plain_comparison c))
+
+-- the right side behind its mark, or nothing
+unfoldable pub comparand_text : Option (Rel × Box Sum Global) → List ℕ
+comparand_text right = text (comparand_pieces (to_comparand (option_map (λ r. (r.0, plain_sum r.1.value)) right)))
+
+unfoldable pub sum_text : Sum → List ℕ
+sum_text s = text (sum_pieces (plain_sum s))
+
+unfoldable pub addends_text : List (Op × Product × ℕ) → List ℕ
+addends_text addends = text (addends_pieces (to_addends (map (λ a. (a.0, plain_product a.1, a.2)) addends)))
+
+unfoldable pub product_text : Product → List ℕ
+product_text p = text (product_pieces (plain_product p))
+
+unfoldable pub factors_text : List (Op × Unary × ℕ) → List ℕ
+factors_text factors = text (factors_pieces (to_factors (map (λ f. (f.0, plain_unary f.1, f.2)) factors)))
+
+unfoldable pub unary_text : Unary → List ℕ
+unary_text u = text (unary_pieces (plain_unary u))
+
+unfoldable pub postfix_text : Postfix → List ℕ
+postfix_text p = text (postfix_pieces (plain_postfix p))
+
+unfoldable pub indices_text : List (Expression × ℕ) → List ℕ
+indices_text indices = text (indices_pieces (plain_indices indices))
+
+unfoldable pub primary_text : Primary → List ℕ
+primary_text p = text (primary_pieces (plain_primary p))
+
+unfoldable pub arguments_text : List Expression → List ℕ
+arguments_text arguments = text (arguments_pieces (plain_expressions arguments))
+
+-- the arguments after the first
+unfoldable pub more_arguments_text : List Expression → List ℕ
+more_arguments_text arguments = text (more_arguments_pieces (plain_expressions arguments))
+
+-- arguments in parentheses
+unfoldable pub call_text : List Expression → List ℕ
+call_text arguments = text (mark symbol.LeftParen ∷ (arguments_pieces (plain_expressions arguments) ++ (mark symbol.RightParen ∷ [])))
+
+-- an expression in parentheses
+unfoldable pub group_text : Expression → List ℕ
+group_text e = text (mark symbol.LeftParen ∷ (expression_pieces (plain_expression e) ++ (mark symbol.RightParen ∷ [])))
