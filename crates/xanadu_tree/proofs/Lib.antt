@@ -1,3 +1,4 @@
 pub mod Equations
+pub mod Loops
 pub mod Texts
 pub mod TreeEquations

@@ -1,8 +1,9 @@
 -- The text of each part of a tree in memory: the text of the pieces that spell it.
-use Rattle.std.specs.Prelude.{ℕ, List, [], ◌∷◌, ◌++◌, map, Option, Box}
+use Rattle.std.specs.Prelude.{ℕ, Bool, true, false, List, [], ◌∷◌, ◌++◌, map, Option, Box}
 use Rattle.std.specs.Option.{option_map}
 use Rattle.std.specs.declared.alloc.Global.{Global}
 use Rattle.xanadu_lexer.specs.declared.symbol.Symbol.TheVariants as symbol
+use Rattle.xanadu_lexer.specs.declared.token.TokenKind.TheVariants as kind
 use Rattle.xanadu_tree.specs.declared.expr.Op.{Op}
 use Rattle.xanadu_tree.specs.declared.expr.Rel.{Rel}
 use Rattle.xanadu_tree.specs.declared.tree.declaration.Declaration.{Declaration}
@@ -27,7 +28,7 @@ use Rattle.xanadu_tree.specs.declared.tree.statement.Statement.{Statement}
 use Rattle.xanadu_tree.specs.declared.tree.statement.WrittenClause.{WrittenClause}
 use Rattle.xanadu_tree.specs.declared.tree.types.Type as written
 use Rattle.xanadu_tree.specs.PlainTreeOf.{to_conjunctions, to_negations, to_comparand, to_addends, to_factors, to_branch, to_statements, plain_index, plain_relation, plain_quantifier, plain_type, plain_parameter, plain_expression, plain_conjunction, plain_negation, plain_comparison, plain_sum, plain_product, plain_unary, plain_postfix, plain_primary, plain_indices, plain_expressions, plain_clause, plain_statement, plain_block, plain_type_body, plain_result, plain_declaration, plain_tree}
-use Rattle.xanadu_tree.specs.Pieces.{mark, text}
+use Rattle.xanadu_tree.specs.Pieces.{mark, shown, text}
 use Rattle.xanadu_tree.specs.Spelling.{index_pieces, relation_pieces, quantifier_pieces, type_pieces, parameter_pieces, clause_pieces, expression_pieces, conjunctions_pieces, conjunction_pieces, negations_pieces, negation_pieces, comparison_pieces, comparand_pieces, sum_pieces, addends_pieces, product_pieces, factors_pieces, unary_pieces, postfix_pieces, indices_pieces, primary_pieces, arguments_pieces, more_arguments_pieces, statement_pieces, branch_pieces, block_pieces, statements_pieces, type_body_pieces, result_pieces, declaration_pieces, declarations_pieces, pieces}
 
 -- ---- expressions
@@ -92,3 +93,13 @@ call_text arguments = text (mark symbol.LeftParen ∷ (arguments_pieces (plain_e
 -- an expression in parentheses
 unfoldable pub group_text : Expression → List ℕ
 group_text e = text (mark symbol.LeftParen ∷ (expression_pieces (plain_expression e) ++ (mark symbol.RightParen ∷ [])))
+
+-- a comma before each item of a list but the first
+abbrev pub comma_unless : (is_first : Bool) → List ℕ
+comma_unless true = []
+comma_unless false = shown (kind.Symbol symbol.Comma)
+
+-- arguments from the first one on, or from a later one on
+abbrev pub arguments_from : (is_first : Bool) → List Expression → List ℕ
+arguments_from true arguments = arguments_text arguments
+arguments_from false arguments = more_arguments_text arguments

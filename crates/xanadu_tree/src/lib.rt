@@ -6,6 +6,7 @@
 
 mod expr;
 mod linear;
+mod print;
 mod program;
 mod small;
 mod stmt;
