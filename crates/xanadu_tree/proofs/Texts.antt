@@ -33,6 +33,9 @@ text-append (piece ∷ front) back = ap (λ rest. shown piece.kind ++ rest) (tex
 pub text-then : (front : List Piece) (piece : Piece) → text (front ++ piece ∷ []) ≡ text front ++ shown piece.kind
 text-then front piece = text-append front (piece ∷ []) ∙ ap (λ rest. text front ++ rest) (append-nil (shown piece.kind))
 
+pub text-then_two : (front middle : List Piece) (piece : Piece) → text (front ++ (middle ++ piece ∷ [])) ≡ text front ++ (text middle ++ shown piece.kind)
+text-then_two front middle piece = text-append front _ ∙ ap (λ rest. text front ++ rest) (text-then middle piece)
+
 -- ---- a chain: its first part, and the others
 
 pub expression_text-is : (e : Expression) → expression_text e ≡ conjunction_text (out-Expression e).first ++ conjunctions_text (out-Expression e).rest.items
