@@ -173,6 +173,14 @@ arguments_from false arguments = more_arguments_text arguments
 unfoldable pub some_expression_text : Option Expression → List ℕ
 some_expression_text e = text (optional expression_pieces (option_map plain_expression e))
 
+-- `=`, a value and `;`
+abbrev pub value_text : Expression → List ℕ
+value_text value = shown (kind.Symbol symbol.Equal) ++ (expression_text value ++ shown (kind.Symbol symbol.Semicolon))
+
+-- names in parentheses
+abbrev pub names_text : List Identifier → List ℕ
+names_text names = shown (kind.Symbol symbol.LeftParen) ++ (listed name_text names ++ shown (kind.Symbol symbol.RightParen))
+
 unfoldable pub statement_text : Statement → List ℕ
 statement_text s = text (statement_pieces (plain_statement s))
 

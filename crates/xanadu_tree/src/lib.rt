@@ -15,6 +15,7 @@ mod types;
 
 pub use expr::{CoreExpr, Op, Rel};
 pub use linear::Linear;
+pub use print::print_tree;
 pub use program::{Core, CoreFun};
 pub use small::number_program;
 pub use stmt::{Clause, CoreStmt, Test};

@@ -47,6 +47,12 @@ pub(super) fn put_rel(out: &mut Vec<u8>, rel: Rel) -> Result<(), Memory>
     put_mark(out, rel_symbol(rel))
 }
 
+pub(super) fn put_sign(out: &mut Vec<u8>, sign: Sign) -> Result<(), Memory>
+    ensures { OnOk result (out.new.items ≡ out.old.items ++ shown (kind.Symbol (spec.sign_symbol sign))) }
+{
+    put_mark(out, sign_symbol(sign))
+}
+
 /// The mark where `is_there`, else nothing.
 pub(super) fn put_mark_if(out: &mut Vec<u8>, is_there: bool, symbol: Symbol) -> Result<(), Memory>
     ensures { (at : ℕ) → OnOk result (out.new.items ≡ out.old.items ++ text (spec.mark_if is_there symbol at)) }
@@ -150,7 +156,7 @@ pub(super) fn index_relation_symbol(relation: IndexRelation) -> Symbol
     }
 }
 
-pub(super) fn sign_symbol(sign: Sign) -> Symbol
+fn sign_symbol(sign: Sign) -> Symbol
     ensures { result ≡ spec.sign_symbol sign }
 {
     match sign {
