@@ -1,5 +1,5 @@
 -- The text of quantifiers, index expressions, types and clauses, by the texts of their parts.
-use Rattle.std.proofs.Common.{◌≡◌, ◌∙◌, ℕ, ℤ, Bool, true, false, List, [], ◌∷◌, ◌++◌, map, Option, Some, None, refl, sym, ap, append_assoc, append-nil}
+use Rattle.std.proofs.Common.{◌≡◌, ◌∙◌, ℕ, ℤ, Bool, true, false, ◌<◌, List, [], ◌∷◌, ◌++◌, length, map, Option, Some, None, refl, sym, ap, append_assoc, append-nil, arith}
 use Rattle.std.specs.Option.{option_map}
 use Rattle.xanadu_lexer.specs.declared.keyword.Keyword.{Keyword}
 use Rattle.xanadu_lexer.specs.declared.keyword.Keyword.TheVariants as keyword
@@ -101,6 +101,14 @@ relations_text-nil = refl
 pub relations_text-cons : (r : Relation) (rs : List Relation) → relations_text (r ∷ rs) ≡ shown (kind.Symbol symbol.Bar) ++ listed relation_text (r ∷ rs)
 unfolding relations_text
 relations_text-cons r rs = ap (λ rest. shown (kind.Symbol symbol.Bar) ++ rest) (with_commas-listed relation_pieces plain_relation relation_text relation_text-pieces (r ∷ rs))
+
+pub relations_text-none : (rs : List Relation) → length rs ≡ 0 → relations_text rs ≡ []
+relations_text-none [] none = relations_text-nil
+relations_text-none (r ∷ rs) none = absurd (omega (arith, none))
+
+pub relations_text-some : (rs : List Relation) → 0 < length rs → relations_text rs ≡ shown (kind.Symbol symbol.Bar) ++ listed relation_text rs
+relations_text-some [] some = absurd (omega (arith, some))
+relations_text-some (r ∷ rs) some = relations_text-cons r rs
 
 pub binder_text-is : (b : Binder) → binder_text b ≡ shown (kind.Lower b.name.name) ++ (shown (kind.Symbol symbol.Colon) ++ shown (kind.Keyword (sort_keyword b.sort)))
 unfolding binder_text
