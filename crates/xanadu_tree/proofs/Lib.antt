@@ -1,5 +1,6 @@
 pub mod Equations
 pub mod Loops
+pub mod ReadBack
 pub mod StatementTexts
 pub mod Texts
 pub mod TreeEquations

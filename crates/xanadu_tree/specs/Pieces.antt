@@ -1,5 +1,5 @@
 -- A list of tokens that is spelled out ahead: which kinds they have, and where some of them stand.
-use Rattle.std.specs.Prelude.{◌≡◌, ℕ, List, [], ◌∷◌, ◌++◌, map, Option, Some, None, IfSome}
+use Rattle.std.specs.Prelude.{◌≡◌, ℕ, ◌+◌, List, [], ◌∷◌, ◌++◌, length, map, Option, Some, None, IfSome}
 use Rattle.xanadu_lexer.specs.declared.keyword.Keyword.{Keyword}
 use Rattle.xanadu_lexer.specs.declared.symbol.Symbol.{Symbol}
 use Rattle.xanadu_lexer.specs.declared.symbol.Symbol.TheVariants as symbol
@@ -66,6 +66,11 @@ shown kind = spelled kind ++ 32 ∷ []
 abbrev pub text : List Piece → List ℕ
 text [] = []
 text (piece ∷ pieces) = shown piece.kind ++ text pieces
+
+-- tokens of these kinds from a place on, each with its text and a space behind it
+abbrev pub tokens_from : (at : ℕ) → List TokenKind → List Token
+tokens_from at [] = []
+tokens_from at (kind ∷ kinds) = record { at = at; kind = kind } ∷ tokens_from (at + length (spelled kind) + 1) kinds
 
 -- ---- lists with commas
 
