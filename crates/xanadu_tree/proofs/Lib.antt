@@ -1,4 +1,5 @@
 pub mod Equations
+pub mod Examples
 pub mod Loops
 pub mod ReadBack
 pub mod StatementTexts

@@ -29,7 +29,7 @@ pub turn_of_two : {A : Type 0} (of next : List A → List ℕ) (xs : List A) (i 
     → before ++ of (drop i xs) ≡ whole → between ≡ before ++ front → after ≡ between ++ back → after ++ next (drop (i + 1) xs) ≡ whole
 turn_of_two of next xs i x front back before between after whole within is splits so_far first second =
     turn of next xs i x (front ++ back) before after whole within is (splits ∙ sym (append_assoc front back _)) so_far
-        (second ∙ ap (λ o. o ++ back) first ∙ append_assoc before front back)
+    (second ∙ ap (λ o. o ++ back) first ∙ append_assoc before front back)
 
 -- an item whose text is put in three parts
 pub turn_of_three : {A : Type 0} (of next : List A → List ℕ) (xs : List A) (i : ℕ) (x : A) (front middle back before one two after whole : List ℕ)
@@ -37,8 +37,8 @@ pub turn_of_three : {A : Type 0} (of next : List A → List ℕ) (xs : List A) (
     → before ++ of (drop i xs) ≡ whole → one ≡ before ++ front → two ≡ one ++ middle → after ≡ two ++ back → after ++ next (drop (i + 1) xs) ≡ whole
 turn_of_three of next xs i x front middle back before one two after whole within is splits so_far first second third =
     turn_of_two of next xs i x front (middle ++ back) before one after whole within is
-        (splits ∙ ap (λ t. front ++ t) (sym (append_assoc middle back _))) so_far first
-        (third ∙ ap (λ o. o ++ back) second ∙ append_assoc one middle back)
+    (splits ∙ ap (λ t. front ++ t) (sym (append_assoc middle back _))) so_far first
+    (third ∙ ap (λ o. o ++ back) second ∙ append_assoc one middle back)
 
 -- the loop's end, where nothing is left to put
 pub over : {A : Type 0} (of : List A → List ℕ) (xs : List A) (i : ℕ) (before whole : List ℕ)

@@ -2,6 +2,7 @@
 use Rattle.std.proofs.Common.{◌≡◌, ◌∙◌, sym, ap, subst, ℕ, ◌+◌, ◌<◌, ◌≤◌, Bool, true, false, List, [], ◌∷◌, ◌++◌, length, map, Result, Ok, refl, rules, arith, append_assoc, length-append}
 use Rattle.std.specs.List.{prefix_len}
 use Rattle.std.specs.Char.{is_ascii_digit, is_ascii_lowercase, is_ascii_uppercase, is_ascii_alphabetic}
+use Rattle.xanadu_lexer.specs.declared.error.LexError.{LexError}
 use Rattle.xanadu_lexer.specs.declared.keyword.Keyword.{Keyword}
 use Rattle.xanadu_lexer.specs.declared.keyword.Keyword.TheVariants as keyword
 use Rattle.xanadu_lexer.specs.declared.symbol.Symbol.{Symbol}
@@ -15,7 +16,11 @@ use Rattle.xanadu_lexer.specs.Lexing.{lexed, long_symbol}
 use Rattle.xanadu_lexer.proofs.Bytes.{letter-blank, letter-comment, digit-blank, digit-comment, digit-letter}
 use Rattle.xanadu_lexer.proofs.Longest.{reach, reach_of, length-le-reach_of}
 use Rattle.xanadu_lexer.proofs.OnlyRules.{lexed_only}
-use Rattle.xanadu_tree.specs.Pieces.{Piece, kinds, HasText, HaveTexts, shown, text, tokens_from}
+use Rattle.xanadu_tree.specs.PlainTree as plain
+use Rattle.xanadu_tree.specs.Pieces.{Piece, Spelled, kinds, HasText, HaveTexts, shown, text, tokens_from}
+use Rattle.xanadu_tree.specs.Printing.{printed}
+use Rattle.xanadu_tree.specs.Spelling.{pieces}
+use Rattle.xanadu_tree.specs.Written.{IsWritten, Reads}
 
 -- ---- the text of a token is a piece, and none is longer where a space follows
 
@@ -128,16 +133,40 @@ token_then : (at : ℕ) (k : TokenKind) (rest : List ℕ) (tokens : List Token) 
     → Lexes at (spelled k ++ 32 ∷ rest) (Ok (record { at = at; kind = k } ∷ tokens))
 token_then at k rest tokens has later =
     AfterToken at (spelled k) (32 ∷ rest) k (Ok tokens) has (longest (spelled k) (32 ∷ rest) (token_alone k has).piece ((token_alone k has).reach rest))
-        (AfterGap (at + length (spelled k)) (32 ∷ []) rest (Ok tokens) (Blank 32 refl) (longest (32 ∷ []) rest (Gapped _ (Blank 32 refl)) refl) later)
+    (AfterGap (at + length (spelled k)) (32 ∷ []) rest (Ok tokens) (Blank 32 refl) (longest (32 ∷ []) rest (Gapped _ (Blank 32 refl)) refl) later)
 
 lexes_from : (at : ℕ) (ps : List Piece) → HaveTexts (kinds ps) → Lexes at (text ps ++ 10 ∷ []) (Ok (tokens_from at (kinds ps)))
 unfolding shown
 lexes_from at [] have = AfterGap at (10 ∷ []) [] (Ok []) (Blank 10 refl) (longest (10 ∷ []) [] (Gapped _ (Blank 10 refl)) refl) (Ended (at + 1))
 lexes_from at (p ∷ ps) have =
     let grouped : spelled p.kind ++ 32 ∷ (text ps ++ 10 ∷ []) ≡ (shown p.kind ++ text ps) ++ 10 ∷ [] =
-        sym (append_assoc (shown p.kind) (text ps) (10 ∷ []) ∙ append_assoc (spelled p.kind) (32 ∷ []) (text ps ++ 10 ∷ [])) in
+    sym (append_assoc (shown p.kind) (text ps) (10 ∷ []) ∙ append_assoc (spelled p.kind) (32 ∷ []) (text ps ++ 10 ∷ [])) in
     subst (λ bytes. Lexes at bytes (Ok (tokens_from at (kinds (p ∷ ps))))) grouped
-        (token_then at p.kind (text ps ++ 10 ∷ []) _ have.0 (lexes_from (at + length (spelled p.kind) + 1) ps have.1))
+    (token_then at p.kind (text ps ++ 10 ∷ []) _ have.0 (lexes_from (at + length (spelled p.kind) + 1) ps have.1))
 
-pub text_is_read_back : (ps : List Piece) → HaveTexts (kinds ps) → lexed (text ps ++ 10 ∷ []) ≡ Ok (tokens_from 0 (kinds ps))
-text_is_read_back ps have = sym (lexed_only _ _ (lexes_from 0 ps have))
+pub printed-read_back : (tree : plain.Tree) → IsWritten tree → lexed (printed tree) ≡ Ok (tokens_from 0 (kinds (pieces tree)))
+unfolding printed
+printed-read_back tree is = sym (lexed_only _ _ (lexes_from 0 (pieces tree) is.tokens))
+
+-- ---- what is read of it has the same kinds
+
+abbrev kinds_of : List Token → List TokenKind
+kinds_of tokens = map (λ token. token.kind) tokens
+
+kinds-spelled : (ps : List Piece) (tokens : List Token) → Spelled ps tokens → kinds ps ≡ kinds_of tokens
+kinds-spelled [] [] is = refl
+kinds-spelled [] (token ∷ tokens) is = absurd is
+kinds-spelled (p ∷ ps) [] is = absurd is
+kinds-spelled (p ∷ ps) (token ∷ tokens) is = ap (λ k. k ∷ kinds ps) (sym is.0.kind) ∙ ap (λ ks. token.kind ∷ ks) (kinds-spelled ps tokens is.1)
+
+kinds-tokens_from : (at : ℕ) (ks : List TokenKind) → kinds_of (tokens_from at ks) ≡ ks
+kinds-tokens_from at [] = refl
+kinds-tokens_from at (k ∷ ks) = ap (λ more. k ∷ more) (kinds-tokens_from (at + length (spelled k) + 1) ks)
+
+one_list : (tokens others : List Token) (answer : Result (List Token) LexError) → answer ≡ Ok tokens → answer ≡ Ok others → tokens ≡ others
+one_list tokens others answer is other_is = cc
+
+pub reading-alike : (tree other : plain.Tree) → IsWritten tree → Reads (printed tree) other → kinds (pieces other) ≡ kinds (pieces tree)
+reading-alike tree other is reads =
+    let same : reads.tokens ≡ tokens_from 0 (kinds (pieces tree)) = one_list _ _ _ reads.lexed (printed-read_back tree is) in
+    kinds-spelled _ _ reads.parsed.spelled ∙ ap kinds_of same ∙ kinds-tokens_from 0 (kinds (pieces tree))

@@ -22,9 +22,9 @@ use Rattle.xanadu_tree.specs.declared.tree.statement.Statement.TheVariants as st
 use Rattle.xanadu_tree.specs.declared.tree.statement.WrittenClause.{WrittenClause}
 use Rattle.xanadu_tree.specs.declared.tree.types.Type as written
 use Rattle.xanadu_tree.specs.Pieces.{Piece, mark, optional, shown, text}
-use Rattle.xanadu_tree.specs.PlainTreeOf.{to_branch, plain_type, plain_parameter, plain_block, plain_clause}
+use Rattle.xanadu_tree.specs.PlainTreeOf.{to_branch, plain_type, plain_parameter, plain_block, plain_clause, plain_tree}
 use Rattle.xanadu_tree.specs.Spelling.{lower, semicolon, clause_behind, type_pieces, parameter_pieces, statement_pieces, branch_pieces, block_pieces, statements_pieces}
-use Rattle.xanadu_tree.specs.Printing.{listed, name_text, parameter_text, type_text, some_quantifier_text, some_clause_text, expression_text, indices_text, call_text, group_text, some_expression_text, statement_text, branch_text, block_text, statements_text, type_body_text, type_declaration_text, result_text, function_text, declaration_text, declarations_text, tree_text}
+use Rattle.xanadu_tree.specs.Printing.{listed, name_text, parameter_text, type_text, some_quantifier_text, some_clause_text, expression_text, indices_text, call_text, group_text, some_expression_text, statement_text, branch_text, block_text, statements_text, type_body_text, type_declaration_text, result_text, function_text, declaration_text, declarations_text, printed}
 use Rattle.xanadu_tree.proofs.TreeEquations.{plain_statement-Declare, plain_statement-Split, plain_statement-Assign, plain_statement-Call, plain_statement-Print, plain_statement-If, plain_statement-While, plain_statement-Return, plain_block-is}
 use Rattle.xanadu_tree.proofs.Texts.{text-append, text-then, text-then_two}
 use Rattle.xanadu_tree.proofs.TypeTexts.{with_commas-listed, with_commas-as_is, name_text-pieces, parameter_text-pieces}
@@ -72,16 +72,16 @@ unfolding statement_text expression_text statement_pieces
 statement_text-Split names value at =
     ap (λ p. text (statement_pieces p)) (plain_statement-Split names value at)
     ∙ ap (λ rest. shown (kind.Keyword keyword.Let) ++ (shown (kind.Symbol symbol.LeftParen) ++ rest))
-        (split_by _ _
-        ∙ ap (λ t. t ++ (shown (kind.Symbol symbol.RightParen) ++ (shown (kind.Symbol symbol.Equal) ++ (expression_text value ++ shown (kind.Symbol symbol.Semicolon)))))
-            (with_commas-as_is (λ name. lower name ∷ []) name_text name_text-pieces names.items))
+    (split_by _ _
+    ∙ ap (λ t. t ++ (shown (kind.Symbol symbol.RightParen) ++ (shown (kind.Symbol symbol.Equal) ++ (expression_text value ++ shown (kind.Symbol symbol.Semicolon)))))
+    (with_commas-as_is (λ name. lower name ∷ []) name_text name_text-pieces names.items))
 
 pub statement_text-Assign : (target : Identifier) (indices : Vec (Expression × ℕ) Global) (value : Expression) → statement_text (statement.Assign target indices value) ≡ shown (kind.Lower target.name) ++ (indices_text indices.items ++ (shown (kind.Symbol symbol.Equal) ++ (expression_text value ++ shown (kind.Symbol symbol.Semicolon))))
 unfolding statement_text expression_text indices_text statement_pieces
 statement_text-Assign target indices value =
     ap (λ p. text (statement_pieces p)) (plain_statement-Assign target indices value)
     ∙ ap (λ rest. shown (kind.Lower target.name) ++ rest)
-        (text-append _ _ ∙ ap (λ rest. indices_text indices.items ++ (shown (kind.Symbol symbol.Equal) ++ rest)) (text-then _ _))
+    (text-append _ _ ∙ ap (λ rest. indices_text indices.items ++ (shown (kind.Symbol symbol.Equal) ++ rest)) (text-then _ _))
 
 pub statement_text-Call : (function : Identifier) (arguments : Vec Expression Global) → statement_text (statement.Call function arguments) ≡ shown (kind.Lower function.name) ++ (call_text arguments.items ++ shown (kind.Symbol symbol.Semicolon))
 unfolding statement_text call_text statement_pieces
@@ -145,7 +145,7 @@ pub type_body_text-Tuple : (parts : Vec written.«Type» Global) → type_body_t
 unfolding type_body_text
 type_body_text-Tuple parts =
     ap (λ rest. shown (kind.Symbol symbol.LeftParen) ++ rest)
-        (text-then _ _ ∙ ap (λ t. t ++ shown (kind.Symbol symbol.RightParen)) (with_commas-listed type_pieces plain_type type_text type_text-pieces parts.items))
+    (text-then _ _ ∙ ap (λ t. t ++ shown (kind.Symbol symbol.RightParen)) (with_commas-listed type_pieces plain_type type_text type_text-pieces parts.items))
 
 pub type_declaration_text-is : (d : TypeDeclaration) → type_declaration_text d ≡ shown (kind.Keyword keyword.«Type») ++ (shown (kind.Upper d.name.name) ++ (shown (kind.Symbol symbol.Equal) ++ (some_quantifier_text d.quantifier ++ (type_body_text d.body ++ shown (kind.Symbol symbol.Semicolon)))))
 unfolding type_declaration_text some_quantifier_text type_body_text
@@ -164,9 +164,9 @@ pub function_text-is : (f : FunctionDeclaration) → function_text f ≡ shown (
 unfolding function_text some_quantifier_text result_text block_text
 function_text-is f =
     ap (λ rest. shown (kind.Keyword keyword.Fun) ++ (shown (kind.Lower f.name.name) ++ rest))
-        (function_by _ _ _ _
-        ∙ ap (λ t. some_quantifier_text f.quantifier ++ (shown (kind.Symbol symbol.LeftParen) ++ (t ++ (shown (kind.Symbol symbol.RightParen) ++ (shown (kind.Symbol symbol.Colon) ++ (result_text f.result ++ block_text f.body))))))
-            (with_commas-listed parameter_pieces plain_parameter parameter_text parameter_text-pieces f.parameters.items))
+    (function_by _ _ _ _
+    ∙ ap (λ t. some_quantifier_text f.quantifier ++ (shown (kind.Symbol symbol.LeftParen) ++ (t ++ (shown (kind.Symbol symbol.RightParen) ++ (shown (kind.Symbol symbol.Colon) ++ (result_text f.result ++ block_text f.body))))))
+    (with_commas-listed parameter_pieces plain_parameter parameter_text parameter_text-pieces f.parameters.items))
 
 pub declaration_text-Type : (d : TypeDeclaration) → declaration_text (declaration.«Type» d) ≡ type_declaration_text d
 unfolding declaration_text type_declaration_text
@@ -184,9 +184,9 @@ pub declarations_text-cons : (d : Declaration) (ds : List Declaration) → decla
 unfolding declarations_text declaration_text
 declarations_text-cons d ds = text-append _ _
 
-pub tree_text-is : (tree : Tree) → tree_text tree ≡ declarations_text tree.declarations.items ++ 10 ∷ []
-unfolding tree_text declarations_text
-tree_text-is tree = refl
+pub printed-is : (tree : Tree) → printed (plain_tree tree) ≡ declarations_text tree.declarations.items ++ 10 ∷ []
+unfolding printed declarations_text
+printed-is tree = refl
 
 -- for code that puts one part behind another
-pub ruleset statement_texts = (append_assoc, append-nil, some_expression_text-None, some_expression_text-Some, statement_text-Declare, statement_text-Split, statement_text-Assign, statement_text-Call, statement_text-Print, statement_text-If, statement_text-While, statement_text-Return, branch_text-None, branch_text-Some, block_text-is, statements_text-nil, statements_text-cons, type_body_text-Cell, type_body_text-Tuple, type_declaration_text-is, result_text-Unit, result_text-Value, function_text-is, declaration_text-Type, declaration_text-Function, declarations_text-nil, declarations_text-cons, tree_text-is)
+pub ruleset statement_texts = (append_assoc, append-nil, some_expression_text-None, some_expression_text-Some, statement_text-Declare, statement_text-Split, statement_text-Assign, statement_text-Call, statement_text-Print, statement_text-If, statement_text-While, statement_text-Return, branch_text-None, branch_text-Some, block_text-is, statements_text-nil, statements_text-cons, type_body_text-Cell, type_body_text-Tuple, type_declaration_text-is, result_text-Unit, result_text-Value, function_text-is, declaration_text-Type, declaration_text-Function, declarations_text-nil, declarations_text-cons, printed-is)

@@ -30,8 +30,8 @@ behind_commas-from : {A B : Type 0} (pieces : A → List Piece) (as_is : B → A
 behind_commas-from pieces as_is of each [] = refl
 behind_commas-from pieces as_is of each (y ∷ ys) =
     ap (λ rest. shown (kind.Symbol symbol.Comma) ++ rest)
-        (text-append (pieces (as_is y)) _ ∙ ap (λ t. t ++ text (behind_commas pieces (map as_is ys))) (sym (each y))
-        ∙ ap (λ rest. of y ++ rest) (behind_commas-from pieces as_is of each ys))
+    (text-append (pieces (as_is y)) _ ∙ ap (λ t. t ++ text (behind_commas pieces (map as_is ys))) (sym (each y))
+    ∙ ap (λ rest. of y ++ rest) (behind_commas-from pieces as_is of each ys))
 
 -- the pieces of plain items, by the texts of the items
 pub with_commas-listed : {A B : Type 0} (pieces : A → List Piece) (as_is : B → A) (of : B → List ℕ) → ((y : B) → of y ≡ text (pieces (as_is y))) → (ys : List B)
@@ -122,8 +122,8 @@ pub quantifier_text-is : (q : Quantifier) → quantifier_text q ≡ shown (kind.
 unfolding quantifier_text relations_text
 quantifier_text-is q =
     ap (λ rest. shown (kind.Symbol symbol.LeftBrace) ++ rest)
-        (text-then_two _ _ (mark symbol.RightBrace)
-        ∙ ap (λ t. t ++ (relations_text q.relations.items ++ shown (kind.Symbol symbol.RightBrace))) (with_commas-as_is binder_pieces binder_text binder_text-pieces q.binders.items))
+    (text-then_two _ _ (mark symbol.RightBrace)
+    ∙ ap (λ t. t ++ (relations_text q.relations.items ++ shown (kind.Symbol symbol.RightBrace))) (with_commas-as_is binder_pieces binder_text binder_text-pieces q.binders.items))
 
 pub some_quantifier_text-None : some_quantifier_text None ≡ []
 unfolding some_quantifier_text
@@ -184,8 +184,8 @@ unfolding clause_text some_quantifier_text
 clause_text-is c =
     text-append _ _
     ∙ ap (λ rest. some_quantifier_text c.quantifier ++ rest)
-        (clause_by c.quantifier c.at _
-        ∙ ap (λ t. shown (kind.Symbol symbol.LeftParen) ++ (t ++ shown (kind.Symbol symbol.RightParen))) (with_commas-listed parameter_pieces plain_parameter parameter_text parameter_text-pieces c.variables.items))
+    (clause_by c.quantifier c.at _
+    ∙ ap (λ t. shown (kind.Symbol symbol.LeftParen) ++ (t ++ shown (kind.Symbol symbol.RightParen))) (with_commas-listed parameter_pieces plain_parameter parameter_text parameter_text-pieces c.variables.items))
 
 pub some_clause_text-None : (keyword : Keyword) → some_clause_text keyword None ≡ []
 unfolding some_clause_text

@@ -13,6 +13,8 @@ pub use declaration::{
 pub use expression::{
     Comparison, Conjunction, Expression, Negation, Postfix, Primary, Product, Sum, Unary,
 };
-pub use index::{Binder, IndexExpression, IndexRelation, IndexTerm, Quantifier, Relation, Sign, Sort};
+pub use index::{
+    Binder, IndexExpression, IndexRelation, IndexTerm, Quantifier, Relation, Sign, Sort,
+};
 pub use statement::{Block, Statement, WrittenClause};
 pub use types::{Element, Type};

@@ -76,7 +76,10 @@ fn put_declaration(out: &mut Vec<u8>, declaration: &Declaration) -> Result<(), M
     }
 }
 
-pub(super) fn put_declarations(out: &mut Vec<u8>, declarations: &[Declaration]) -> Result<(), Memory>
+pub(super) fn put_declarations(
+    out: &mut Vec<u8>,
+    declarations: &[Declaration],
+) -> Result<(), Memory>
     ensures { OnOk result (out.new.items ≡ out.old.items ++ declarations_text declarations.now) }
 {
     for declaration in declarations {

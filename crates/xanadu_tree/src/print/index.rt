@@ -105,7 +105,10 @@ fn put_quantifier(out: &mut Vec<u8>, quantifier: &Quantifier) -> Result<(), Memo
 }
 
 #[tactic(auto, using(crate::proofs::TypeTexts::type_texts))]
-pub(super) fn put_some_quantifier(out: &mut Vec<u8>, quantifier: &Option<Quantifier>) -> Result<(), Memory>
+pub(super) fn put_some_quantifier(
+    out: &mut Vec<u8>,
+    quantifier: &Option<Quantifier>,
+) -> Result<(), Memory>
     ensures { OnOk result (out.new.items ≡ out.old.items ++ some_quantifier_text quantifier.now) }
 {
     match quantifier {

@@ -73,7 +73,10 @@ fn put_statement(out: &mut Vec<u8>, statement: &Statement) -> Result<(), Memory>
             put_some_clause(out, Keyword::Join, join)
         }
         Statement::While {
-            test, head, body, ..
+            test,
+            head,
+            body,
+            ..
         } => {
             put_word(out, Keyword::While)?;
             put_group(out, test)?;

@@ -177,9 +177,5 @@ pub(super) fn sort_keyword(sort: Sort) -> Keyword
 pub(super) fn truth_keyword(truth: bool) -> Keyword
     ensures { result ≡ spec.truth_keyword truth }
 {
-    if truth {
-        Keyword::True
-    } else {
-        Keyword::False
-    }
+    if truth { Keyword::True } else { Keyword::False }
 }

@@ -80,7 +80,11 @@ fn put_clause(out: &mut Vec<u8>, clause: &WrittenClause) -> Result<(), Memory>
 
 /// A clause behind its keyword, or nothing.
 #[tactic(auto, using(crate::proofs::TypeTexts::type_texts))]
-pub(super) fn put_some_clause(out: &mut Vec<u8>, keyword: Keyword, clause: &Option<WrittenClause>) -> Result<(), Memory>
+pub(super) fn put_some_clause(
+    out: &mut Vec<u8>,
+    keyword: Keyword,
+    clause: &Option<WrittenClause>,
+) -> Result<(), Memory>
     ensures { OnOk result (out.new.items ≡ out.old.items ++ some_clause_text keyword clause.now) }
 {
     match clause {

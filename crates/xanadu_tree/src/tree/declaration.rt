@@ -65,7 +65,9 @@ pub struct Parameter {
 #[derive(Debug, Drop)]
 pub enum ResultType {
     /// No value.
-    Unit { at: u32 },
+    Unit {
+        at: u32,
+    },
     Value {
         quantifier: Option<Quantifier>,
         ty: Type,

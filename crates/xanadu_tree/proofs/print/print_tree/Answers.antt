@@ -1,0 +1,13 @@
+use Rattle.std.proofs.Common.{◌≡◌, ◌∙◌, ap, arith}
+use Rattle.std.proofs.lemmas.Grind.{common_steps}
+use Rattle.xanadu_lexer.specs.Lexing.{lexed}
+use Rattle.xanadu_tree.specs.PlainTreeOf.{plain_tree}
+use Rattle.xanadu_tree.specs.Printing.{printed}
+use Rattle.xanadu_tree.proofs.ReadBack.{printed-read_back}
+use Rattle.xanadu_tree.proofs.StatementTexts.{statement_texts}
+use Rattle.xanadu_tree.proofs.print.print_tree.Goals as goal
+
+pub returns-clause-read_back : goal.returns-clause-read_back
+returns-clause-read_back c =
+    let is : c.push.new.self.items ≡ printed (plain_tree c.args.tree.now) = grind (arith, common_steps, statement_texts) in
+    λ written. ap lexed is ∙ printed-read_back _ written
