@@ -1,5 +1,7 @@
 pub mod Equations
 pub mod Examples
+pub mod Laid
+pub mod LaidExpressions
 pub mod Loops
 pub mod ReadBack
 pub mod StatementTexts

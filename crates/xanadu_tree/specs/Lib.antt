@@ -8,3 +8,4 @@ pub mod Small
 pub mod Spelling
 pub mod Written
 pub mod Printing
+pub mod Unplaced
