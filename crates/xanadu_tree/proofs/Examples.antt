@@ -6,7 +6,7 @@ use Rattle.xanadu_lexer.specs.declared.symbol.Symbol.{Symbol}
 use Rattle.xanadu_lexer.specs.declared.symbol.Symbol.TheVariants as symbol
 use Rattle.xanadu_lexer.specs.declared.token.TokenKind.{TokenKind}
 use Rattle.xanadu_lexer.specs.declared.token.TokenKind.TheVariants as kind
-use Rattle.xanadu_tree.specs.Nesting.{open_at, nesting, IsTooNested}
+use Rattle.xanadu_tree.specs.Nesting.{open_at, nesting}
 
 -- ---- nesting
 

@@ -1,14 +1,13 @@
 -- Each expression has one whose tokens stand one behind the other from a place on, and which is the same up to offsets.
-use Rattle.std.proofs.Common.{◌≡◌, ◌∙◌, sym, ap, ℕ, ◌+◌, true, false, List, [], ◌∷◌, ◌++◌, length, refl}
-use Rattle.xanadu_lexer.specs.declared.keyword.Keyword.TheVariants as keyword
+use Rattle.std.proofs.Common.{◌≡◌, ◌∙◌, sym, ap, ℕ, ◌+◌, true, false, [], ◌∷◌, ◌++◌, length, refl}
 use Rattle.xanadu_lexer.specs.declared.symbol.Symbol.TheVariants as symbol
 use Rattle.xanadu_lexer.specs.declared.token.TokenKind.TheVariants as kind
 use Rattle.xanadu_lexer.specs.Spelling.{spelled}
 use Rattle.xanadu_tree.specs.declared.tree.types.Element.{Element}
 use Rattle.xanadu_tree.specs.declared.tree.types.Element.TheVariants as element
-use Rattle.xanadu_tree.specs.Pieces.{Piece, mark}
+use Rattle.xanadu_tree.specs.Pieces.{mark}
 use Rattle.xanadu_tree.specs.PlainTree as plain
-use Rattle.xanadu_tree.specs.Spelling.{op_symbol, rel_symbol, truth_keyword, element_piece, expression_pieces, conjunctions_pieces, conjunction_pieces, negations_pieces, negation_pieces, comparison_pieces, comparand_pieces, sum_pieces, addends_pieces, product_pieces, factors_pieces, unary_pieces, postfix_pieces, indices_pieces, primary_pieces, arguments_pieces, more_arguments_pieces}
+use Rattle.xanadu_tree.specs.Spelling.{op_symbol, rel_symbol, element_piece, expression_pieces, conjunctions_pieces, conjunction_pieces, negations_pieces, negation_pieces, comparison_pieces, comparand_pieces, sum_pieces, addends_pieces, product_pieces, factors_pieces, unary_pieces, postfix_pieces, indices_pieces, primary_pieces, arguments_pieces, more_arguments_pieces}
 use Rattle.xanadu_tree.specs.Unplaced.{unplaced_name, unplaced_element, unplaced_expression, unplaced_conjunctions, unplaced_conjunction, unplaced_negations, unplaced_negation, unplaced_comparison, unplaced_comparand, unplaced_sum, unplaced_addends, unplaced_product, unplaced_factors, unplaced_unary, unplaced_postfix, unplaced_indices, unplaced_primary, unplaced_expressions}
 use Rattle.xanadu_tree.specs.Written.{AreArguments, IsExpression, AreConjunctions, IsConjunction, AreNegations, IsNegation, IsComparison, IsComparand, IsSum, AreAddends, IsProduct, AreFactors, IsUnary, IsPostfix, AreIndices, IsPrimary, AreExpressions, PlacedExpression, PlacedConjunctions, PlacedConjunction, PlacedNegations, PlacedNegation, PlacedComparison, PlacedComparand, PlacedSum, PlacedAddends, PlacedProduct, PlacedFactors, PlacedUnary, PlacedPostfix, PlacedIndices, PlacedPrimary, PlacedExpressions, element_at, expression_at, conjunction_at, negation_at, comparison_at, sum_at, product_at, unary_at, postfix_at, primary_at}
 use Rattle.xanadu_tree.proofs.Laid.{width, Laid, Anywhere, Always, here, free, both, alike_two}
@@ -80,6 +79,7 @@ some_arguments (plain.AnExpression x xs) (plain.AnExpression y ys) alike are = t
 
 mutual
   unfolding expression_pieces PlacedExpression IsExpression unplaced_expression
+
   pub lay_expression : (at : ℕ) (x : plain.Expression) → LaidExpression at x
   lay_expression at (plain.ExpressionOf first rest _) =
       let one = lay_conjunction at first in
@@ -335,9 +335,17 @@ mutual
       let two = lay_expression then fill in
       record {
         made = plain.New cell.made one.made two.made at;
-        spelled = (here _ at, (cell.spelled.0, (free _ _,
-            both next (expression_pieces length_of) (mark symbol.RightBracket ∷ mark symbol.LeftParen ∷ (expression_pieces fill ++ (mark symbol.RightParen ∷ []))) _ _ one.spelled
-                (free _ _, (free _ _, both then (expression_pieces fill) (mark symbol.RightParen ∷ []) _ _ two.spelled (free _ _, tt))))));
+        spelled = (
+          here _ at,
+          (
+            cell.spelled.0,
+            (
+              free _ _,
+              both next (expression_pieces length_of) (mark symbol.RightBracket ∷ mark symbol.LeftParen ∷ (expression_pieces fill ++ (mark symbol.RightParen ∷ []))) _ _ one.spelled
+                  (free _ _, (free _ _, both then (expression_pieces fill) (mark symbol.RightParen ∷ []) _ _ two.spelled (free _ _, tt))),
+            ),
+          ),
+        );
         placed = (one.placed, two.placed);
         is = λ h. (one.is h.0, two.is h.1);
         begins = refl;

@@ -8,15 +8,15 @@ use Rattle.xanadu_lexer.specs.declared.keyword.Keyword.TheVariants as keyword
 use Rattle.xanadu_lexer.specs.declared.symbol.Symbol.TheVariants as symbol
 use Rattle.xanadu_lexer.specs.Spelling.{keyword_text}
 use Rattle.xanadu_tree.specs.declared.tree.declaration.Identifier.{Identifier}
-use Rattle.xanadu_tree.specs.Pieces.{Piece, kinds, tokens_from, mark, with_commas, optional}
+use Rattle.xanadu_tree.specs.Pieces.{kinds, tokens_from, mark, with_commas, optional}
 use Rattle.xanadu_tree.specs.PlainTree as plain
 use Rattle.xanadu_tree.specs.Printing.{printed}
-use Rattle.xanadu_tree.specs.Spelling.{lower, semicolon, quantifier_pieces, type_pieces, parameter_pieces, clause_pieces, clause_behind, expression_pieces, indices_pieces, arguments_pieces, statement_pieces, branch_pieces, block_pieces, statements_pieces, type_body_pieces, type_declaration_pieces, result_pieces, function_pieces, declaration_pieces, declarations_pieces, pieces}
+use Rattle.xanadu_tree.specs.Spelling.{lower, semicolon, quantifier_pieces, type_pieces, parameter_pieces, clause_behind, expression_pieces, indices_pieces, arguments_pieces, statement_pieces, branch_pieces, block_pieces, statements_pieces, type_body_pieces, type_declaration_pieces, result_pieces, function_pieces, declaration_pieces, declarations_pieces, pieces}
 use Rattle.xanadu_tree.specs.Unplaced.{unplaced_name, unplaced_quantifier, unplaced_type, unplaced_parameter, unplaced_clause, unplaced_expression, unplaced_statement, unplaced_branch, unplaced_block, unplaced_statements, unplaced_type_body, unplaced_type_declaration, unplaced_result, unplaced_function, unplaced_declaration, unplaced, ReadsAlike}
-use Rattle.xanadu_tree.specs.Written.{IsSome, WhereGiven, IsClause, IsExpression, IsStatement, IsBranch, IsBlock, AreStatements, IsTypeBody, IsTypeDeclaration, IsResult, IsFunction, IsDeclaration, AreDeclarations, IsTree, IsWritten, expression_at, declaration_at, result_at, PlacedType, PlacedParameter, PlacedClause, PlacedExpression, PlacedStatement, PlacedBranch, PlacedBlock, PlacedStatements, PlacedTypeBody, PlacedTypeDeclaration, PlacedResult, PlacedFunction, PlacedDeclaration, PlacedTree, Reads}
+use Rattle.xanadu_tree.specs.Written.{IsSome, WhereGiven, IsClause, IsExpression, IsStatement, IsBranch, IsBlock, AreStatements, IsTypeBody, IsTypeDeclaration, IsResult, IsFunction, IsDeclaration, AreDeclarations, IsTree, IsWritten, expression_at, declaration_at, PlacedType, PlacedParameter, PlacedClause, PlacedExpression, PlacedStatement, PlacedBranch, PlacedBlock, PlacedStatements, PlacedTypeBody, PlacedTypeDeclaration, PlacedResult, PlacedFunction, PlacedDeclaration, PlacedTree}
 use Rattle.xanadu_tree.proofs.Laid.{width, Laid, Anywhere, Always, here, free, both, alike_two, alike_three, lay_optional, lay_list}
 use Rattle.xanadu_tree.proofs.LaidExpressions.{lay_expression, lay_indices, lay_arguments}
-use Rattle.xanadu_tree.proofs.LaidTypes.{LaidClause, lay_name, lay_some_quantifier, lay_quantifier, lay_type, lay_parameter, lay_clause}
+use Rattle.xanadu_tree.proofs.LaidTypes.{lay_name, lay_some_quantifier, lay_quantifier, lay_type, lay_parameter, lay_clause}
 use Rattle.xanadu_tree.proofs.ReadBack.{printed-read_back}
 
 -- ---- statements
@@ -51,6 +51,7 @@ LaidStatements = Laid statements_pieces PlacedStatements AreStatements Anywhere 
 
 mutual
   unfolding statement_pieces PlacedStatement IsStatement unplaced_statement
+
   lay_statement : (at : ℕ) (x : plain.Statement) → LaidStatement at x
   lay_statement at (plain.Declare name value _) =
       let named : ℕ = at + 3 + 1 in
@@ -71,9 +72,14 @@ mutual
       let two = lay_expression then value in
       record {
         made = plain.Split one.made two.made at;
-        spelled = (here _ at, (free _ _,
+        spelled = (
+          here _ at,
+          (
+            free _ _,
             both next (with_commas (λ x. lower x ∷ []) names) (mark symbol.RightParen ∷ mark symbol.Equal ∷ (expression_pieces value ++ semicolon)) _ _ one.spelled
-                (free _ _, (free _ _, both then (expression_pieces value) semicolon _ _ two.spelled (free _ _, tt)))));
+                (free _ _, (free _ _, both then (expression_pieces value) semicolon _ _ two.spelled (free _ _, tt))),
+          ),
+        );
         placed = two.placed;
         is = λ h. (one.is h.0, two.is h.1);
         begins = tt;
@@ -86,8 +92,11 @@ mutual
       let two = lay_expression then value in
       record {
         made = plain.Assign (record { name = target.name; at = at }) one.made two.made;
-        spelled = (here _ at, both next (indices_pieces indices) (mark symbol.Equal ∷ (expression_pieces value ++ semicolon)) _ _ one.spelled
-            (free _ _, both then (expression_pieces value) semicolon _ _ two.spelled (free _ _, tt)));
+        spelled = (
+          here _ at,
+          both next (indices_pieces indices) (mark symbol.Equal ∷ (expression_pieces value ++ semicolon)) _ _ one.spelled
+              (free _ _, both then (expression_pieces value) semicolon _ _ two.spelled (free _ _, tt)),
+        );
         placed = (one.placed, two.placed);
         is = λ h. (one.is h.0, two.is h.1);
         begins = tt;
@@ -126,10 +135,17 @@ mutual
       let four = lay_some_clause keyword.Join join_at join in
       record {
         made = plain.If one.made two.made three.made four.made at;
-        spelled = (here _ at, (free _ _,
-            both tested (expression_pieces test) (mark symbol.RightParen ∷ (block_pieces on_true ++ (branch_pieces on_false ++ optional (clause_behind keyword.Join) join))) _ _ one.spelled
-                (free _ _, both block_at (block_pieces on_true) (branch_pieces on_false ++ optional (clause_behind keyword.Join) join) (block_pieces two.made) (branch_pieces three.made ++ optional (clause_behind keyword.Join) four.made) two.spelled
-                    (both else_at (branch_pieces on_false) (optional (clause_behind keyword.Join) join) (branch_pieces three.made) (optional (clause_behind keyword.Join) four.made) three.spelled four.spelled))));
+        spelled = (
+          here _ at,
+          (
+            free _ _,
+            both tested (expression_pieces test) (mark symbol.RightParen ∷ (block_pieces on_true ++ (branch_pieces on_false ++ optional (clause_behind keyword.Join) join))) _ _ one.spelled (
+              free _ _,
+              both block_at (block_pieces on_true) (branch_pieces on_false ++ optional (clause_behind keyword.Join) join) (block_pieces two.made) (branch_pieces three.made ++ optional (clause_behind keyword.Join) four.made) two.spelled
+                  (both else_at (branch_pieces on_false) (optional (clause_behind keyword.Join) join) (branch_pieces three.made) (optional (clause_behind keyword.Join) four.made) three.spelled four.spelled),
+            ),
+          ),
+        );
         placed = (one.placed, two.placed, three.placed, four.placed);
         is = λ h. (one.is h.0, two.is h.1, three.is h.2, four.is h.3);
         begins = tt;
@@ -145,9 +161,14 @@ mutual
       let three = lay_block block_at body in
       record {
         made = plain.While one.made two.made three.made at;
-        spelled = (here _ at, (free _ _,
+        spelled = (
+          here _ at,
+          (
+            free _ _,
             both tested (expression_pieces test) (mark symbol.RightParen ∷ (optional (clause_behind keyword.With) head ++ block_pieces body)) _ _ one.spelled
-                (free _ _, both head_at (optional (clause_behind keyword.With) head) (block_pieces body) (optional (clause_behind keyword.With) two.made) (block_pieces three.made) two.spelled three.spelled)));
+                (free _ _, both head_at (optional (clause_behind keyword.With) head) (block_pieces body) (optional (clause_behind keyword.With) two.made) (block_pieces three.made) two.spelled three.spelled),
+          ),
+        );
         placed = (one.placed, two.placed, three.placed);
         is = λ h. (one.is h.0, two.is h.1, three.is h.2);
         begins = tt;
@@ -231,9 +252,17 @@ lay_type_declaration at x =
     let two = lay_type_body then x.body in
     record {
       made = record { name = record { name = x.name.name; at = named }; quantifier = one.made; body = two.made; at = at };
-      spelled = (here _ at, (here _ named, (free _ _,
-          both next (optional quantifier_pieces x.quantifier) (type_body_pieces x.body ++ semicolon) (optional quantifier_pieces one.made) (type_body_pieces two.made ++ semicolon) one.spelled
-              (both then (type_body_pieces x.body) semicolon (type_body_pieces two.made) semicolon two.spelled (free _ _, tt)))));
+      spelled = (
+        here _ at,
+        (
+          here _ named,
+          (
+            free _ _,
+            both next (optional quantifier_pieces x.quantifier) (type_body_pieces x.body ++ semicolon) (optional quantifier_pieces one.made) (type_body_pieces two.made ++ semicolon) one.spelled
+                (both then (type_body_pieces x.body) semicolon (type_body_pieces two.made) semicolon two.spelled (free _ _, tt)),
+          ),
+        ),
+      );
       placed = (one.placed, two.placed);
       is = λ h. (one.is h.0, two.is h.1);
       begins = refl;
@@ -277,15 +306,22 @@ lay_function at x =
     let four = lay_block block_at x.body in
     record {
       made = record { name = record { name = x.name.name; at = named }; quantifier = one.made; parameters = two.made; result = three.made; body = four.made; at = at };
-      spelled = (here _ at, (here _ named,
+      spelled = (
+        here _ at,
+        (
+          here _ named,
           both next (optional quantifier_pieces x.quantifier)
               (mark symbol.LeftParen ∷ (with_commas parameter_pieces x.parameters ++ (mark symbol.RightParen ∷ mark symbol.Colon ∷ (result_pieces x.result ++ block_pieces x.body))))
               (optional quantifier_pieces one.made)
               (mark symbol.LeftParen ∷ (with_commas parameter_pieces two.made ++ (mark symbol.RightParen ∷ mark symbol.Colon ∷ (result_pieces three.made ++ block_pieces four.made))))
-              one.spelled
-              (free _ _, both params_at (with_commas parameter_pieces x.parameters) (mark symbol.RightParen ∷ mark symbol.Colon ∷ (result_pieces x.result ++ block_pieces x.body))
-                  (with_commas parameter_pieces two.made) (mark symbol.RightParen ∷ mark symbol.Colon ∷ (result_pieces three.made ++ block_pieces four.made)) two.spelled
-                  (free _ _, (free _ _, both result_at (result_pieces x.result) (block_pieces x.body) (result_pieces three.made) (block_pieces four.made) three.spelled four.spelled)))));
+              one.spelled (
+                free _ _,
+                both params_at (with_commas parameter_pieces x.parameters) (mark symbol.RightParen ∷ mark symbol.Colon ∷ (result_pieces x.result ++ block_pieces x.body))
+                    (with_commas parameter_pieces two.made) (mark symbol.RightParen ∷ mark symbol.Colon ∷ (result_pieces three.made ++ block_pieces four.made)) two.spelled
+                    (free _ _, (free _ _, both result_at (result_pieces x.result) (block_pieces x.body) (result_pieces three.made) (block_pieces four.made) three.spelled four.spelled)),
+              ),
+        ),
+      );
       placed = (one.placed, two.placed, three.placed, four.placed);
       is = λ h. (one.is h.0, three.is h.1, four.is h.2);
       begins = refl;

@@ -1,5 +1,5 @@
 -- Each quantifier, type and clause has one whose tokens stand one behind the other from a place on, and which is the same up to offsets.
-use Rattle.std.proofs.Common.{◌≡◌, ◌∙◌, sym, ap, ℕ, ◌+◌, true, false, Bool as Truth, List, [], ◌∷◌, ◌++◌, length, map, Option, Some, None, All, refl}
+use Rattle.std.proofs.Common.{◌≡◌, sym, ap, ℕ, ◌+◌, true, false, Bool as Truth, List, [], ◌∷◌, ◌++◌, length, map, Option, Some, None, All, refl}
 use Rattle.std.specs.Option.{option_map}
 use Rattle.std.proofs.lemmas.List.Elements.{All-nil}
 use Rattle.xanadu_lexer.specs.declared.symbol.Symbol.TheVariants as symbol
@@ -10,10 +10,10 @@ use Rattle.xanadu_tree.specs.declared.tree.index.Binder.{Binder}
 use Rattle.xanadu_tree.specs.declared.tree.index.IndexTerm.{IndexTerm}
 use Rattle.xanadu_tree.specs.declared.tree.index.IndexTerm.TheVariants as index_term
 use Rattle.xanadu_tree.specs.declared.tree.index.Sign.{Sign}
-use Rattle.xanadu_tree.specs.Pieces.{Piece, Spelled, kinds, tokens_from, mark, with_commas, optional}
+use Rattle.xanadu_tree.specs.Pieces.{Spelled, kinds, tokens_from, mark, with_commas, optional}
 use Rattle.xanadu_tree.specs.PlainTree as plain
-use Rattle.xanadu_tree.specs.Spelling.{lower, sign_symbol, index_relation_symbol, sort_keyword, index_term_pieces, signed_pieces, index_pieces, relation_pieces, relations_pieces, binder_pieces, quantifier_pieces, element_piece, type_pieces, parameter_pieces, clause_pieces}
-use Rattle.xanadu_tree.specs.Unplaced.{unplaced_name, unplaced_index_term, unplaced_signed, unplaced_index, unplaced_relation, unplaced_binder, unplaced_quantifier, unplaced_element, unplaced_type, unplaced_parameter, unplaced_clause}
+use Rattle.xanadu_tree.specs.Spelling.{lower, sign_symbol, index_relation_symbol, index_term_pieces, signed_pieces, index_pieces, relation_pieces, relations_pieces, binder_pieces, quantifier_pieces, element_piece, type_pieces, parameter_pieces, clause_pieces}
+use Rattle.xanadu_tree.specs.Unplaced.{unplaced_name, unplaced_index_term, unplaced_signed, unplaced_index, unplaced_relation, unplaced_binder, unplaced_quantifier, unplaced_type, unplaced_parameter, unplaced_clause}
 use Rattle.xanadu_tree.specs.Written.{IsSome, WhereGiven, IsQuantifier, IsClause, index_term_at, type_at, PlacedIndex, PlacedRelation, PlacedQuantifier, PlacedType, PlacedParameter, PlacedClause}
 use Rattle.xanadu_tree.proofs.Laid.{width, Laid, Anywhere, Always, here, free, both, alike_two, lay_optional, lay_list}
 use Rattle.xanadu_tree.proofs.LaidExpressions.{lay_element}
@@ -138,8 +138,11 @@ lay_quantifier at x =
     let two = lay_relations next x.relations in
     record {
       made = record { binders = one.made; relations = two.made; at = at };
-      spelled = (here _ at, both (at + 1 + 1) (with_commas binder_pieces x.binders) (relations_pieces x.relations ++ (mark symbol.RightBrace ∷ [])) _ _ one.spelled
-          (both next (relations_pieces x.relations) (mark symbol.RightBrace ∷ []) _ _ two.spelled (free _ _, tt)));
+      spelled = (
+        here _ at,
+        both (at + 1 + 1) (with_commas binder_pieces x.binders) (relations_pieces x.relations ++ (mark symbol.RightBrace ∷ [])) _ _ one.spelled
+            (both next (relations_pieces x.relations) (mark symbol.RightBrace ∷ []) _ _ two.spelled (free _ _, tt)),
+      );
       placed = two.placed;
       is = one.is;
       begins = refl;

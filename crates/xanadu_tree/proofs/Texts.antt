@@ -19,8 +19,6 @@ use Rattle.xanadu_tree.specs.declared.tree.expression.Sum.{Sum, out-Sum}
 use Rattle.xanadu_tree.specs.declared.tree.expression.Unary.{Unary, out-Unary}
 use Rattle.xanadu_tree.specs.declared.tree.types.Element.{Element}
 use Rattle.xanadu_tree.specs.Pieces.{Piece, shown, text}
-use Rattle.xanadu_tree.specs.PlainTree as plain
-use Rattle.xanadu_tree.specs.PlainTreeOf.{to_conjunctions, to_negations, to_addends, to_factors, plain_expression, plain_conjunction, plain_negation, plain_comparison, plain_sum, plain_product, plain_unary, plain_postfix, plain_primary, plain_indices, plain_expressions}
 use Rattle.xanadu_tree.specs.Spelling.{op_symbol, rel_symbol, truth_keyword, mark_if, element_piece, expression_pieces, conjunctions_pieces, conjunction_pieces, negations_pieces, negation_pieces, comparison_pieces, comparand_pieces, sum_pieces, addends_pieces, product_pieces, factors_pieces, unary_pieces, postfix_pieces, indices_pieces, primary_pieces, arguments_pieces, more_arguments_pieces}
 use Rattle.xanadu_tree.specs.Printing.{call_text, comparand_text, group_text, expression_text, conjunctions_text, conjunction_text, negations_text, negation_text, comparison_text, sum_text, addends_text, product_text, factors_text, unary_text, postfix_text, indices_text, primary_text, arguments_text, more_arguments_text}
 use Rattle.xanadu_tree.proofs.TreeEquations.{plain_expression-out, plain_conjunction-out, plain_negation-out, plain_comparison-out, plain_sum-out, plain_product-out, plain_unary-out, plain_postfix-out, plain_primary-Number, plain_primary-Truth, plain_primary-Variable, plain_primary-Call, plain_primary-Make, plain_primary-Length, plain_primary-New, plain_primary-Group}

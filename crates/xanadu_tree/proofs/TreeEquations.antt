@@ -1,7 +1,7 @@
 -- The plain tree of each kind of node of a source's tree, by the plain trees of its children.
 --
 -- A struct that leads back to itself is seen by its fields, as code reads them, and made from its fields, as code makes it.
-use Rattle.std.proofs.Common.{◌≡◌, ℕ, ℤ, Bool as Truth, List, map, Option, rules}
+use Rattle.std.proofs.Common.{◌≡◌, ℕ, ℤ, Bool as Truth, map, Option, rules}
 use Rattle.std.specs.Prelude.{Vec, Box}
 use Rattle.std.specs.Option.{option_map}
 use Rattle.std.specs.declared.alloc.Global.{Global}
@@ -20,7 +20,6 @@ use Rattle.xanadu_tree.specs.declared.tree.expression.Product.{Product, out-Prod
 use Rattle.xanadu_tree.specs.declared.tree.expression.Sum.{Sum, out-Sum, roll-Sum}
 use Rattle.xanadu_tree.specs.declared.tree.expression.Unary.{Unary, out-Unary, roll-Unary}
 use Rattle.xanadu_tree.specs.declared.tree.statement.Block.{Block}
-use Rattle.xanadu_tree.specs.declared.tree.statement.Statement.{Statement}
 use Rattle.xanadu_tree.specs.declared.tree.statement.Statement.TheFolds.{the_lemmas as statement_folds}
 use Rattle.xanadu_tree.specs.declared.tree.statement.Statement.TheVariants as statement
 use Rattle.xanadu_tree.specs.declared.tree.statement.WrittenClause.{WrittenClause}

@@ -20,7 +20,7 @@ use Rattle.xanadu_tree.specs.declared.tree.types.Type.TheVariants as ty
 use Rattle.xanadu_tree.specs.Pieces.{Piece, mark, shown, text, behind_commas, with_commas}
 use Rattle.xanadu_tree.specs.PlainTreeOf.{plain_relation, plain_parameter, plain_quantifier}
 use Rattle.xanadu_tree.specs.Spelling.{paren_behind, sign_symbol, index_relation_symbol, sort_keyword, mark_if, element_piece, lower, relation_pieces, binder_pieces, parameter_pieces}
-use Rattle.xanadu_tree.specs.Printing.{comma_unless, listed_from, listed, index_term_text, signed_text, index_text, relation_text, relations_text, binder_text, quantifier_text, some_quantifier_text, some_index_text, type_text, parameter_text, name_text, clause_text, some_clause_text}
+use Rattle.xanadu_tree.specs.Printing.{listed_from, listed, index_term_text, signed_text, index_text, relation_text, relations_text, binder_text, quantifier_text, some_quantifier_text, some_index_text, type_text, parameter_text, name_text, clause_text, some_clause_text}
 use Rattle.xanadu_tree.proofs.Texts.{text-append, text-then, text-then_two}
 
 -- ---- lists with commas

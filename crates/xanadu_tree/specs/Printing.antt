@@ -12,7 +12,6 @@ use Rattle.xanadu_tree.specs.declared.tree.declaration.FunctionDeclaration.{Func
 use Rattle.xanadu_tree.specs.declared.tree.declaration.Identifier.{Identifier}
 use Rattle.xanadu_tree.specs.declared.tree.declaration.Parameter.{Parameter}
 use Rattle.xanadu_tree.specs.declared.tree.declaration.ResultType.{ResultType}
-use Rattle.xanadu_tree.specs.declared.tree.declaration.Tree.{Tree}
 use Rattle.xanadu_tree.specs.declared.tree.declaration.TypeBody.{TypeBody}
 use Rattle.xanadu_tree.specs.declared.tree.declaration.TypeDeclaration.{TypeDeclaration}
 use Rattle.xanadu_tree.specs.declared.tree.expression.Comparison.{Comparison}
@@ -35,7 +34,7 @@ use Rattle.xanadu_tree.specs.declared.tree.statement.Statement.{Statement}
 use Rattle.xanadu_tree.specs.declared.tree.statement.WrittenClause.{WrittenClause}
 use Rattle.xanadu_tree.specs.declared.tree.types.Type as written
 use Rattle.xanadu_tree.specs.PlainTree as plain
-use Rattle.xanadu_tree.specs.PlainTreeOf.{to_conjunctions, to_negations, to_comparand, to_addends, to_factors, to_branch, to_statements, plain_index, plain_relation, plain_quantifier, plain_type, plain_parameter, plain_expression, plain_conjunction, plain_negation, plain_comparison, plain_sum, plain_product, plain_unary, plain_postfix, plain_primary, plain_indices, plain_expressions, plain_clause, plain_statement, plain_block, plain_type_body, plain_type_declaration, plain_result, plain_function, plain_declaration, plain_tree}
+use Rattle.xanadu_tree.specs.PlainTreeOf.{to_conjunctions, to_negations, to_comparand, to_addends, to_factors, to_branch, to_statements, plain_index, plain_relation, plain_quantifier, plain_type, plain_parameter, plain_expression, plain_conjunction, plain_negation, plain_comparison, plain_sum, plain_product, plain_unary, plain_postfix, plain_primary, plain_indices, plain_expressions, plain_clause, plain_statement, plain_block, plain_type_body, plain_type_declaration, plain_result, plain_function, plain_declaration}
 use Rattle.xanadu_tree.specs.Pieces.{mark, optional, shown, text}
 use Rattle.xanadu_tree.specs.Spelling.{lower, index_term_pieces, signed_pieces, index_pieces, relation_pieces, relations_pieces, binder_pieces, quantifier_pieces, type_pieces, parameter_pieces, clause_pieces, clause_behind, expression_pieces, conjunctions_pieces, conjunction_pieces, negations_pieces, negation_pieces, comparison_pieces, comparand_pieces, sum_pieces, addends_pieces, product_pieces, factors_pieces, unary_pieces, postfix_pieces, indices_pieces, primary_pieces, arguments_pieces, more_arguments_pieces, statement_pieces, branch_pieces, block_pieces, statements_pieces, type_body_pieces, type_declaration_pieces, result_pieces, function_pieces, declaration_pieces, declarations_pieces, pieces}
 

@@ -34,7 +34,7 @@
 --     prim     := NUM | "true" | "false" | LOWER | LOWER "(" [args] ")"
 --               | UPPER "(" args ")" | "len" "(" expr ")"
 --               | "new" elem "[" expr "]" "(" expr ")" | "(" expr ")"
-use Rattle.std.specs.Prelude.{◌≡◌, ℕ, Bool as Truth, true, false, List, [], ◌∷◌, ◌++◌, Option, Some, None, Ok}
+use Rattle.std.specs.Prelude.{ℕ, Bool as Truth, true, false, List, [], ◌∷◌, ◌++◌, Option, Some, None}
 use Rattle.xanadu_lexer.specs.declared.keyword.Keyword.{Keyword}
 use Rattle.xanadu_lexer.specs.declared.keyword.Keyword.TheVariants as keyword
 use Rattle.xanadu_lexer.specs.declared.symbol.Symbol.{Symbol}
@@ -57,7 +57,7 @@ use Rattle.xanadu_tree.specs.declared.tree.index.Sort.TheVariants as sort
 use Rattle.xanadu_tree.specs.declared.tree.types.Element.{Element}
 use Rattle.xanadu_tree.specs.declared.tree.types.Element.TheVariants as element
 use Rattle.xanadu_tree.specs.PlainTree as plain
-use Rattle.xanadu_tree.specs.Pieces.{Piece, placed, word, word_at, mark, mark_at, behind_commas, with_commas, optional}
+use Rattle.xanadu_tree.specs.Pieces.{Piece, placed, word, word_at, mark, mark_at, with_commas, optional}
 
 -- ---- single tokens
 

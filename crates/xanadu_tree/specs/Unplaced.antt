@@ -1,5 +1,5 @@
 -- A tree without its offsets: each is 0. Two trees are the same up to offsets where these are equal.
-use Rattle.std.specs.Prelude.{◌≡◌, ℕ, List, map, Option}
+use Rattle.std.specs.Prelude.{◌≡◌, ℕ, List, map}
 use Rattle.std.specs.Option.{option_map}
 use Rattle.xanadu_tree.specs.declared.tree.declaration.Identifier.{Identifier}
 use Rattle.xanadu_tree.specs.declared.tree.index.Binder.{Binder}

@@ -1,4 +1,4 @@
-use Rattle.std.proofs.Common.{◌≡◌, ◌<◌, ◌++◌, length, append_assoc, append-nil, arith, refl}
+use Rattle.std.proofs.Common.{◌≡◌, ◌<◌, length, append_assoc, append-nil, arith, refl}
 use Rattle.std.proofs.lemmas.Grind.{common_steps}
 use Rattle.xanadu_tree.proofs.TypeTexts.{relations_text-none, relations_text-some}
 use Rattle.xanadu_tree.proofs.print.index.put_relations.Goals as goal
