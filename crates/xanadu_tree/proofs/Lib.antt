@@ -1,1 +1,12 @@
 pub mod Equations
+pub mod Examples
+pub mod Laid
+pub mod LaidExpressions
+pub mod LaidTrees
+pub mod LaidTypes
+pub mod Loops
+pub mod ReadBack
+pub mod StatementTexts
+pub mod Texts
+pub mod TreeEquations
+pub mod TypeTexts

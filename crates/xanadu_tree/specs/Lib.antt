@@ -1,3 +1,11 @@
+pub mod Nesting
+pub mod Pieces
 pub mod Plain
 pub mod PlainOf
+pub mod PlainTree
+pub mod PlainTreeOf
 pub mod Small
+pub mod Spelling
+pub mod Written
+pub mod Printing
+pub mod Unplaced

@@ -1,14 +1,12 @@
 -- Small programs: one function `main` of numbers, which returns a sum of its parameters and of literals.
-use Rattle.std.specs.Prelude.{◌≡◌, ℕ, ℤ, pos, ◌+◌, ◌<◌, ◌≤◌, List, [], ◌∷◌, map, replicate, codes, None, Some, false, FitsSigned}
+use Rattle.std.specs.Prelude.{◌≡◌, ℕ, pos, ◌+◌, ◌<◌, ◌≤◌, List, [], ◌∷◌, map, replicate, codes, Some, FitsSigned}
 use Rattle.std.specs.Int.{w64}
 use Rattle.std.specs.List.{range_with_len}
 use Rattle.xanadu_tree.specs.declared.expr.Op.{Op}
-use Rattle.xanadu_tree.specs.declared.expr.Op.TheVariants.{Add, Sub, Mul, Div, Mod}
-use Rattle.xanadu_tree.specs.declared.linear.Linear.{Linear}
+use Rattle.xanadu_tree.specs.declared.expr.Op.TheVariants.{Add, Sub}
 use Rattle.xanadu_tree.specs.declared.types.Quant.{Quant}
 use Rattle.xanadu_tree.specs.declared.types.CoreTy.{CoreTy}
 use Rattle.xanadu_tree.specs.declared.types.CoreTy.TheVariants as ty
-use Rattle.xanadu_tree.specs.declared.types.Kind.{Kind}
 use Rattle.xanadu_tree.specs.declared.types.Kind.TheVariants as kind
 use Rattle.xanadu_tree.specs.Plain as plain
 

@@ -5,15 +5,29 @@
 #![tactic(auto)]
 
 mod expr;
+mod laws;
 mod linear;
+mod print;
 mod program;
 mod small;
 mod stmt;
+mod tree;
 mod types;
 
 pub use expr::{CoreExpr, Op, Rel};
+pub use laws::{printed_is_read_again, printed_tokens, readings_are_alike};
 pub use linear::Linear;
+pub use print::print_tree;
 pub use program::{Core, CoreFun};
 pub use small::number_program;
 pub use stmt::{Clause, CoreStmt, Test};
+pub use tree::{
+    Binder, Block, Comparison, Conjunction, Declaration, Element, Expression, FunctionDeclaration,
+    Identifier, IndexExpression, IndexRelation, IndexTerm, Negation, Parameter, Postfix, Primary,
+    Product, Quantifier, Relation, ResultType, Sign, Sort, Statement, Sum, Tree, Type, TypeBody,
+    TypeDeclaration, Unary, WrittenClause,
+};
 pub use types::{CoreTy, Kind, Packing, Quant};
+
+#[cfg(test)]
+mod tests;
