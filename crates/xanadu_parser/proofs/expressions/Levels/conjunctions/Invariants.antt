@@ -1,0 +1,10 @@
+use Rattle.std.proofs.Common.{◌≡◌, ◌-◌, map}
+use Rattle.xanadu_parser.specs.Reader.{repeated_from}
+use Rattle.xanadu_lexer.specs.declared.symbol.Symbol.TheVariants as symbol
+use Rattle.xanadu_parser.specs.Tables.{mark}
+use Rattle.xanadu_parser.specs.Views.{behind_or}
+use Rattle.xanadu_parser.specs.Expressions as spec
+use Rattle.xanadu_parser.proofs.expressions.Levels.conjunctions.Given as goal
+
+abbrev pub invariant-loop-turn : goal.invariant-loop-turn
+invariant-loop-turn g l = repeated_from (mark symbol.Or) (spec.one_conjunction (spec.expression l.self.room)) (l._turn-end - l._turn) (map behind_or l.found.items) l.tokens ≡ spec.conjunctions (spec.expression l.self.room) l.fn.tokens

@@ -1,0 +1,11 @@
+use Rattle.std.proofs.Common.{◌≡◌, ◌-◌}
+use Rattle.xanadu_parser.specs.Reader.{repeated_from}
+use Rattle.xanadu_lexer.specs.declared.symbol.Symbol.TheVariants as symbol
+use Rattle.xanadu_parser.specs.Tables.{mark}
+use Rattle.xanadu_parser.specs.Statements.{names}
+use Rattle.xanadu_parser.specs.Reader.{take}
+use Rattle.xanadu_parser.specs.Tables.{lower}
+use Rattle.xanadu_parser.proofs.statements.names.Given as goal
+
+abbrev pub invariant-loop-turn : goal.invariant-loop-turn
+invariant-loop-turn l = repeated_from (mark symbol.Comma) (λ _. (take lower)) (l._turn-end - l._turn) l.found.items l.tokens ≡ names l.fn.tokens

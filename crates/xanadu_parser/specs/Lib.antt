@@ -1,0 +1,13 @@
+pub mod Reader
+pub mod Code
+pub mod Tables
+pub mod Index
+pub mod Types
+pub mod Expressions
+pub mod Nests
+pub mod Views
+pub mod Statements
+pub mod Declarations
+pub mod Kinds
+pub mod Parsing
+pub mod Faults

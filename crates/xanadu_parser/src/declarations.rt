@@ -1,0 +1,140 @@
+//! Declarations of types and functions.
+
+ghost use Rattle.std.specs.Prelude.{map};
+ghost use Rattle.xanadu_tree.specs.PlainTreeOf.{plain_type_body, plain_type_declaration, plain_result, plain_function, plain_declaration};
+ghost use Rattle.xanadu_parser.specs.Code.{Reads};
+ghost use Rattle.xanadu_parser.specs.Declarations as spec;
+
+use crate::index::{quantified, quantifier};
+use crate::statements::block;
+use crate::stop::Stop;
+use crate::tokens::Tokens;
+use crate::types::{parameters, type_at, types, written_type};
+use std::alloc::Global;
+use xanadu_lexer::{Keyword, Symbol};
+use xanadu_tree::{Declaration, FunctionDeclaration, ResultType, TypeBody, TypeDeclaration};
+
+/// The parts of a tuple type in parentheses, or a cell type.
+#[tactic(auto, unfolding(crate::specs::Declarations::type_body))]
+fn type_body(alloc: Global, tokens: &mut Tokens<'_>) -> Result<TypeBody, Stop>
+    ensures { Reads plain_type_body result tokens.new (spec.type_body tokens.old) }
+{
+    if tokens.eat_symbol(Symbol::LeftParen).is_none() {
+        return Ok(TypeBody::Cell(written_type(alloc, tokens)?));
+    }
+    let parts = types(alloc, tokens)?;
+    tokens.symbol(Symbol::RightParen)?;
+    Ok(TypeBody::Tuple(parts))
+}
+
+/// What is behind `type`.
+#[tactic(auto, unfolding(crate::specs::Declarations::type_declaration))]
+fn type_declaration(
+    alloc: Global,
+    tokens: &mut Tokens<'_>,
+    at: u32,
+) -> Result<TypeDeclaration, Stop>
+    ensures { Reads plain_type_declaration result tokens.new (spec.type_declaration at tokens.old) }
+{
+    let name = tokens.upper()?;
+    tokens.symbol(Symbol::Equal)?;
+    let quantifier = quantifier(alloc, tokens)?;
+    let body = type_body(alloc, tokens)?;
+    tokens.symbol(Symbol::Semicolon)?;
+    Ok(TypeDeclaration {
+        name,
+        quantifier,
+        body,
+        at,
+    })
+}
+
+/// A type, with a quantifier before it or none.
+#[tactic(auto, unfolding(crate::specs::Declarations::value_type))]
+fn value_type(alloc: Global, tokens: &mut Tokens<'_>) -> Result<ResultType, Stop>
+    ensures { Reads plain_result result tokens.new (spec.value_type tokens.old) }
+{
+    if let Some(at) = tokens.eat_symbol(Symbol::LeftBrace) {
+        let quantifier = quantified(alloc, tokens, at)?;
+        let ty = written_type(alloc, tokens)?;
+        return Ok(ResultType::Value {
+            quantifier: Some(quantifier),
+            ty,
+            at,
+        });
+    }
+    let ty = written_type(alloc, tokens)?;
+    let at = type_at(&ty);
+    Ok(ResultType::Value {
+        quantifier: None,
+        ty,
+        at,
+    })
+}
+
+/// What a function gives.
+#[tactic(auto, unfolding(crate::specs::Declarations::result_type))]
+fn result_type(alloc: Global, tokens: &mut Tokens<'_>) -> Result<ResultType, Stop>
+    ensures { Reads plain_result result tokens.new (spec.result_type tokens.old) }
+{
+    if let Some(at) = tokens.eat_keyword(Keyword::Unit) {
+        return Ok(ResultType::Unit { at });
+    }
+    value_type(alloc, tokens)
+}
+
+/// What is behind `fun`.
+#[tactic(auto, unfolding(crate::specs::Declarations::function_declaration))]
+fn function_declaration(
+    alloc: Global,
+    tokens: &mut Tokens<'_>,
+    room: usize,
+    at: u32,
+) -> Result<FunctionDeclaration, Stop>
+    ensures { Reads plain_function result tokens.new (spec.function_declaration room at tokens.old) }
+{
+    let name = tokens.lower()?;
+    let quantifier = quantifier(alloc, tokens)?;
+    let parameters = parameters(alloc, tokens)?;
+    tokens.symbol(Symbol::Colon)?;
+    let result = result_type(alloc, tokens)?;
+    let body = block(alloc, tokens, room)?;
+    Ok(FunctionDeclaration {
+        name,
+        quantifier,
+        parameters,
+        result,
+        body,
+        at,
+    })
+}
+
+#[tactic(auto, unfolding(crate::specs::Declarations::declaration))]
+fn declaration(alloc: Global, tokens: &mut Tokens<'_>, room: usize) -> Result<Declaration, Stop>
+    ensures { Reads plain_declaration result tokens.new (spec.declaration room tokens.old) }
+{
+    if let Some(at) = tokens.eat_keyword(Keyword::Type) {
+        return Ok(Declaration::Type(type_declaration(alloc, tokens, at)?));
+    }
+    let at = tokens.keyword(Keyword::Fun)?;
+    Ok(Declaration::Function(function_declaration(alloc, tokens, room, at)?))
+}
+
+/// Declarations up to the end of the tokens.
+#[tactic(auto, unfolding(crate::specs::Declarations::declarations))]
+pub fn declarations(
+    alloc: Global,
+    tokens: &mut Tokens<'_>,
+    room: usize,
+) -> Result<Vec<Declaration>, Stop>
+    ensures { Reads (λ x. map plain_declaration x.items) result tokens.new (spec.declarations room tokens.old) }
+{
+    let mut found = Vec::new(alloc);
+    for _turn in 0..tokens.left() {
+        if tokens.left() == 0 {
+            return Ok(found);
+        }
+        found.push(declaration(alloc, tokens, room)?)?;
+    }
+    Ok(found)
+}
