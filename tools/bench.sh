@@ -1,23 +1,72 @@
 #!/usr/bin/env sh
-# Builds the benchmarks and prints how many proof lines a second are checked, beside a plain loop in C that does the same sums.
+# Builds the benchmarks and prints how many proof lines a second are checked, beside a plain loop in C that does the same sums, and how many megabytes
+# a second of two sources of a mebibyte are lexed and parsed.
 set -e
 cd "$(dirname "$0")/.."
 mkdir -p bin
 (cd crates/lines_bench && rt run -- combs 1000 1 >/dev/null)
-cp crates/lines_bench/out/lines_bench bin/
+(cd crates/sources_bench && rt run -- trees data/sum.xan 1 >/dev/null)
+cp crates/lines_bench/out/lines_bench crates/sources_bench/out/sources_bench bin/
 cc -O2 -o bin/bench_lines tools/bench_lines.c
 
+# nanoseconds that a command takes
+took() {
+    start=$(date +%s%N)
+    "$@" >/dev/null
+    end=$(date +%s%N)
+    echo $((end - start))
+}
+
 LINES_OF_A_PROOF=100000
-TIMES=20
+CHECKS=20
 
 # lines a second of a program that checks a proof of this kind
-speed() {
-    start=$(date +%s%N)
-    "$1" "$2" "$LINES_OF_A_PROOF" "$TIMES" >/dev/null
-    end=$(date +%s%N)
-    echo $((LINES_OF_A_PROOF * TIMES * 1000000000 / (end - start)))
+lines_a_second() {
+    echo $((LINES_OF_A_PROOF * CHECKS * 1000000000 / $(took "$1" "$2" "$LINES_OF_A_PROOF" "$CHECKS")))
 }
 
 for kind in combs cuts; do
-    echo "$kind: $(speed bin/lines_bench $kind) lines a second checked, $(speed bin/bench_lines $kind) by the loop in C"
+    echo "$kind: $(lines_a_second bin/lines_bench $kind) lines a second checked, $(lines_a_second bin/bench_lines $kind) by the loop in C"
+done
+
+READINGS=10
+SOURCE_BYTES=1048000
+
+# functions of sums, until they fill the source
+functions_of_sums() {
+    awk -v most=$SOURCE_BYTES 'BEGIN {
+        while (size < most) {
+            line = "fun f" made++ "(x: int, y: int): int { return x + y - " made "; }\n"
+            size += length(line)
+            printf "%s", line
+        }
+    }'
+}
+
+# one function of statements of four hundred operators, until they fill the source
+long_statements() {
+    awk -v most=$((SOURCE_BYTES - 4000)) 'BEGIN {
+        print "fun main(x: int): int {"
+        while (size < most) {
+            line = "    x = x"
+            for (i = 0; i < 100; i++) line = line " + x * " i " - (x + " i ")"
+            line = line ";\n"
+            size += length(line)
+            printf "%s", line
+        }
+        print "    return x;\n}"
+    }'
+}
+
+# megabytes a second, in tenths, of a source that is read in the way of this kind
+tenths_of_megabytes() {
+    echo $(($(wc -c <"$2") * READINGS * 10000 / $(took bin/sources_bench "$1" "$2" "$READINGS")))
+}
+
+for source in functions_of_sums long_statements; do
+    $source >"bin/$source.xan"
+    for kind in tokens trees; do
+        speed=$(tenths_of_megabytes $kind "bin/$source.xan")
+        echo "$source: $((speed / 10)).$((speed % 10)) MB a second, $kind"
+    done
 done
