@@ -1,6 +1,6 @@
 //! Small cores: one function of numbers that returns a sum. What their body returns, and the test for them.
 
-ghost use Rattle.std.specs.Prelude.{◌≡◌, map};
+ghost use Rattle.std.specs.Prelude.{◌≡◌, ◌≤◌, length, map, true, false};
 ghost use Rattle.std.specs.Option.{option_map};
 ghost use Rattle.dtal_code.specs.Machine.{fits_word};
 ghost use Rattle.xanadu_tree.specs.PlainOf.{plain_expr, plain_stmt, plain_block, plain_fun, plain_core, to_links};
@@ -60,11 +60,12 @@ fn has_small_params(fun: &CoreFun) -> bool
 }
 
 fn are_ints(types: &[CoreTy]) -> bool
+    requires { length types.now ≤ 8 }
     ensures { result ≡ spec.are_ints_from 0 types.now }
 {
     let mut variable: usize = 0;
     let mut types = types;
-    while let [first, others @ ..] = types {
+    'types: while let [first, others @ ..] = types {
         if !is_int_of(variable, first) {
             return false;
         }
@@ -125,7 +126,7 @@ fn are_int_kinds(kinds: &[Kind]) -> bool
     ensures { result ≡ spec.are_int_kinds kinds.now }
 {
     let mut kinds = kinds;
-    while let [kind, others @ ..] = kinds {
+    'kinds: while let [kind, others @ ..] = kinds {
         if !is_int_kind(*kind) {
             return false;
         }
@@ -198,7 +199,7 @@ fn are_links(count: usize, links: &[(Op, CoreExpr, u32)]) -> bool
     ensures { result ≡ spec.are_links count (to_links (plain_links links.now)) }
 {
     let mut links = links;
-    while let [link, others @ ..] = links {
+    'links: while let [link, others @ ..] = links {
         if !is_link(count, link.0, &link.1) {
             return false;
         }
