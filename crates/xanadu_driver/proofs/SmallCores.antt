@@ -70,6 +70,7 @@ few n h = let p = and_parts (nat_lt 0 n) (nat_lt n 100) h in (above n p.0, below
   where
     above : (n : ℕ) → nat_lt 0 n ≡ true → 1 ≤ n
     above n h = grind (arith, nat_tests)
+
     below : (n : ℕ) → nat_lt n 100 ≡ true → n < 100
     below n h = grind (arith, nat_tests)
 
@@ -78,6 +79,7 @@ few_passes n low high = both (nat_lt 0 n) (nat_lt n 100) (above n low) (below n 
   where
     above : (n : ℕ) → 1 ≤ n → nat_lt 0 n ≡ true
     above n h = grind (arith, nat_tests)
+
     below : (n : ℕ) → n < 100 → nat_lt n 100 ≡ true
     below n h = grind (arith, nat_tests)
 
@@ -253,16 +255,17 @@ function_passes count value return_at at less is =
     let many : length (map int_of (range_with_len 0 count)) ≡ count = length-map-range_with_len int_of 0 count in
     subst (λ (n : ℕ). passing n ≡ true) (sym many)
     (both (((true && ((nat_le count 8 && are_ints_from 0 (map int_of (range_with_len 0 count))) && is_free count (free count))) && (is_int_of count (int_of count) && is_free 1 (free 1))))
-        (((length (replicate count kind.Int) == count) && are_int_kinds (replicate count kind.Int)) && is_sum count value)
-        (both (true && ((nat_le count 8 && are_ints_from 0 (map int_of (range_with_len 0 count))) && is_free count (free count))) (is_int_of count (int_of count) && is_free 1 (free 1))
-            (both (nat_le count 8 && are_ints_from 0 (map int_of (range_with_len 0 count))) (is_free count (free count)) (both (nat_le count 8) (are_ints_from 0 (map int_of (range_with_len 0 count))) (at_most count less) (ints_pass 0 count)) (free_passes count))
-            (both (is_int_of count (int_of count)) (is_free 1 (free 1)) (int_passes count) (free_passes 1)))
-        (both ((length (replicate count kind.Int) == count) && are_int_kinds (replicate count kind.Int)) (is_sum count value)
-            (both (length (replicate count kind.Int) == count) (are_int_kinds (replicate count kind.Int)) (same_passes (length (replicate count kind.Int)) count (length-replicate count kind.Int)) (kinds_pass count))
-            (sum_passes count value is)))
+    (((length (replicate count kind.Int) == count) && are_int_kinds (replicate count kind.Int)) && is_sum count value)
+    (both (true && ((nat_le count 8 && are_ints_from 0 (map int_of (range_with_len 0 count))) && is_free count (free count))) (is_int_of count (int_of count) && is_free 1 (free 1))
+    (both (nat_le count 8 && are_ints_from 0 (map int_of (range_with_len 0 count))) (is_free count (free count)) (both (nat_le count 8) (are_ints_from 0 (map int_of (range_with_len 0 count))) (at_most count less) (ints_pass 0 count)) (free_passes count))
+    (both (is_int_of count (int_of count)) (is_free 1 (free 1)) (int_passes count) (free_passes 1)))
+    (both ((length (replicate count kind.Int) == count) && are_int_kinds (replicate count kind.Int)) (is_sum count value)
+    (both (length (replicate count kind.Int) == count) (are_int_kinds (replicate count kind.Int)) (same_passes (length (replicate count kind.Int)) count (length-replicate count kind.Int)) (kinds_pass count))
+    (sum_passes count value is)))
   where
     at_most : (n : ℕ) → n ≤ 8 → nat_le n 8 ≡ true
     at_most n h = grind (arith, nat_tests)
+
     passing : ℕ → Bool
     passing n = ((true && ((nat_le n 8 && are_ints_from 0 (map int_of (range_with_len 0 count))) && is_free n (free count))) && (is_int_of n (int_of count) && is_free 1 (free 1)))
         && (((length (replicate count kind.Int) == n) && are_int_kinds (replicate count kind.Int)) && is_sum n value)

@@ -46,7 +46,6 @@ abbrev pub are_links : ℕ → plain.Links → Bool
 are_links count plain.NoLink = true
 are_links count (plain.ALink op operand _ others) = is_link count op operand && are_links count others
 
-
 -- from 1 to 99 of them
 abbrev pub are_few : ℕ → Bool
 are_few count = nat_lt 0 count && nat_lt count 100

@@ -43,7 +43,7 @@ fn is_small_alone(funs: &[CoreFun]) -> bool
 fn is_small_function(fun: &CoreFun) -> bool
     ensures { result ≡ spec.is_small_function (plain_fun fun.now) }
 {
-    fun.name.bytes() == b"main"
+    fun.name.bytes() == b"main".as_slice()
         && has_small_params(fun)
         && has_small_result(fun)
         && (has_small_kinds(fun) && has_small_body(fun))

@@ -11,22 +11,66 @@ const REFUSED: &[(&[u8], u8, &[u8])] = &[
     (b"fun main(): int { return 1 & 2; }", 7, b"bytes: at 27\n"),
     (b"fun main() int { return 0; }", 8, b"parse: at 11\n"),
     (b"fun main(): int { return y; }", 9, b"shape 2: at 25\n"),
-    (b"fun main(x: int): int { return 9223372036854775808; }", 7, b"bytes: at 31\n"),
-    (b"fun main(x: int): int { return 007; }", 7, b"bytes: at 31\n"),
-    (b"fun main(x: int): int { return x; } \x0b", 7, b"bytes: at 36\n"),
-    (b"fun main(x: int,): int { return x; }", 8, b"parse: at 16\n"),
+    (
+        b"fun main(x: int): int { return 9223372036854775808; }",
+        7,
+        b"bytes: at 31\n",
+    ),
+    (
+        b"fun main(x: int): int { return 007; }",
+        7,
+        b"bytes: at 31\n",
+    ),
+    (
+        b"fun main(x: int): int { return x; } \x0b",
+        7,
+        b"bytes: at 36\n",
+    ),
+    (
+        b"fun main(x: int,): int { return x; }",
+        8,
+        b"parse: at 16\n",
+    ),
     (b"fun main(x: int): int { return x }", 8, b"parse: at 33\n"),
-    (b"fun main(x: int): int { return x; } x", 8, b"parse: at 36\n"),
+    (
+        b"fun main(x: int): int { return x; } x",
+        8,
+        b"parse: at 36\n",
+    ),
     (b"fun Main(x: int): int { return x; }", 8, b"parse: at 4\n"),
     (b"fun main(if: int): int { return 1; }", 8, b"parse: at 9\n"),
-    (b"fun main(x: int): int { return x + ; }", 8, b"parse: at 35\n"),
+    (
+        b"fun main(x: int): int { return x + ; }",
+        8,
+        b"parse: at 35\n",
+    ),
     (b"fun main(x: int): int { // open\n", 8, b"parse: at 32\n"),
-    (b"fun main(x: int, x: int): int { return x; }", 9, b"shape 1: at 17\n"),
+    (
+        b"fun main(x: int, x: int): int { return x; }",
+        9,
+        b"shape 1: at 17\n",
+    ),
     (b"fun f(x: int): int { return x; }", 9, b"shape 10: at 32\n"),
-    (b"fun main(x: bool): int { return x; }", 9, b"shape 3: at 32\n"),
-    (b"fun main(x: int): int { return y * x; }", 9, b"shape 2: at 31\n"),
-    (b"fun main(x: int, x: int): int { return & }", 7, b"bytes: at 39\n"),
-    (b"fun main(x: int, x: int): int { return }", 8, b"parse: at 39\n"),
+    (
+        b"fun main(x: bool): int { return x; }",
+        9,
+        b"shape 3: at 32\n",
+    ),
+    (
+        b"fun main(x: int): int { return y * x; }",
+        9,
+        b"shape 2: at 31\n",
+    ),
+    (
+        b"fun main(x: int, x: int): int { return & }",
+        7,
+        b"bytes: at 39\n",
+    ),
+    (
+        b"fun main(x: int, x: int): int { return }",
+        8,
+        b"parse: at 39\n",
+    ),
 ];
 
 /// Sources that have a core which is not small.
@@ -105,7 +149,13 @@ fn limits_of_length_and_nesting(rt: HostRuntime) -> Result<(), Fail> {
     let open = repeated(alloc, b"fun fun ", b"(", 65, b"")?;
     assert!(rt; is_left(&keeping(alloc, open.as_slice())?, 5, nesting));
     let long = repeated(alloc, b"&", b" ", 1048576, b"")?;
-    assert!(rt; is_left(&keeping(alloc, long.as_slice())?, 5, b"limit: length 1048576\n"));
+    assert!(rt;
+        is_left(
+            &keeping(alloc, long.as_slice())?,
+            5,
+            b"limit: length 1048576\n"
+        )
+    );
     Ok(())
 }
 
@@ -114,10 +164,24 @@ fn a_refusal_whose_line_fails(rt: HostRuntime) -> Result<(), Fail> {
     let alloc = rt.alloc();
     let source: &[u8] = b"fun main(): int { return y; }";
     for put in 0..5u64 {
-        let cut = run(alloc, BUILD, Some(source), Vec::new(alloc), 1000, one(alloc, put)?)?;
+        let cut = run(
+            alloc,
+            BUILD,
+            Some(source),
+            Vec::new(alloc),
+            1000,
+            one(alloc, put)?,
+        )?;
         assert!(rt; cut.status == 4 && b"shape 2: at 25\n".starts_with(cut.said.as_slice()));
     }
-    let read = run(alloc, BUILD, Some(source), one(alloc, 0)?, 1000, Vec::new(alloc))?;
+    let read = run(
+        alloc,
+        BUILD,
+        Some(source),
+        one(alloc, 0)?,
+        1000,
+        Vec::new(alloc),
+    )?;
     assert!(rt; is(&read, 3, b"read: failed\n", None));
     let all = plain(alloc, BUILD, Some(source))?;
     assert!(rt; is(&all, 9, b"shape 2: at 25\n", None));
