@@ -54,8 +54,17 @@ begins_front a b h = record {
   parses = subst (λ (l : List Token). Parses l h.end h.tree) (append_assoc a b h.ending) h.parses;
 }
 
+taken_none : (n : ℕ) → ◌≡◌ {A = List Token} (take n []) []
+taken_none zero = refl
+taken_none (suc n) = refl
+
+dropped_none : (n : ℕ) → ◌≡◌ {A = List Token} (drop n []) []
+dropped_none zero = refl
+dropped_none (suc n) = refl
+
 taken_more : (tokens : List Token) (n m : ℕ) → n ≤ m → take m tokens ≡ take n tokens ++ take (m - n) (drop n tokens)
-taken_more [] n m le = refl
+taken_more [] n m le =
+    taken_none m ∙ sym (ap₂ (λ (a b : List Token). a ++ b) (taken_none n) (ap (take (m - n)) (dropped_none n) ∙ taken_none (m - n)))
 taken_more (t ∷ ts) zero m le = ap (λ (k : ℕ). take k (t ∷ ts)) (omega arith)
 taken_more (t ∷ ts) (suc n) zero le = absurd (omega (arith, le))
 taken_more (t ∷ ts) (suc n) (suc m) le = ap (λ (l : List Token). t ∷ l) (taken_more ts n m (omega (arith, le)))
@@ -81,6 +90,14 @@ of_core core = Ok core
 
 abbrev of_shape : ℕ → ShapeKind → Result plain.Program Fault
 of_shape at kind = Err (record { at = at; kind = kind })
+
+kind_or : ShapeKind → Result plain.Program Fault → ShapeKind
+kind_or d (Ok core) = d
+kind_or d (Err fault) = fault.kind
+
+place_or : ℕ → Result plain.Program Fault → ℕ
+place_or d (Ok core) = d
+place_or d (Err fault) = fault.at
 
 module _ (bytes : List ℕ) where
   one_written : (a b : tree.Tree) → HasTree bytes a → HasTree bytes b → a ≡ b
@@ -120,7 +137,7 @@ module _ (bytes : List ℕ) where
       same_shape k l a b (sym x.fault ∙ ap (λ (t : tree.Tree). shape t (length bytes)) (one_written x.written y.written x.has y.has) ∙ y.fault)
     where
       same_shape : (k l : ShapeKind) (a b : ℕ) → of_shape a k ≡ of_shape b l → refusal.Shape k a ≡ refusal.Shape l b
-      same_shape k l a b e = cc
+      same_shape k l a b e = ap₂ refusal.Shape (ap (kind_or k) e) (ap (place_or a) e)
 
   -- a source is refused for one thing at most
   pub one_refusal : (r s : Refusal) → IsRefused bytes r → IsRefused bytes s → r ≡ s

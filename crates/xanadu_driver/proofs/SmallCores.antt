@@ -1,6 +1,6 @@
 -- The test for small cores holds exactly of small cores.
 use Rattle.std.proofs.Common.{◌≡◌, ℕ, zero, suc, ◌+◌, ◌<◌, ◌≤◌, ℤ, pos, Bool, true, false, ◌&&◌, ◌==◌, List, [], ◌∷◌, map, length, replicate, Option, Some, None, refl, sym, ap, ap₂, ◌∙◌, subst, arith}
-use Rattle.std.specs.Prelude.{codes, nat_lt, nat_le}
+use Rattle.std.specs.Prelude.{codes, nat_lt, nat_le, slice_index_or as get_or}
 use Rattle.std.specs.Option.{option_map_or}
 use Rattle.std.specs.Ordering.{int_eq}
 use Rattle.std.specs.Str.{bytes_eq}
@@ -12,9 +12,15 @@ use Rattle.std.proofs.lemmas.List.FromFn.{length-map-range_with_len}
 use Rattle.std.proofs.lemmas.Option.{same_Some}
 use Rattle.std.proofs.lemmas.Slice.Eq.{bytes_eq-Decides}
 use Rattle.dtal_code.proofs.Steps.{fits_word-true, fits_word-fits}
+use Rattle.std.specs.Prelude.{Vec, Box}
+use Rattle.std.specs.declared.alloc.Global.{Global}
+use Rattle.xanadu_tree.specs.declared.expr.CoreExpr.{CoreExpr, map-CoreExpr, fold-CoreExpr, fold_out-CoreExpr, roll-CoreExpr, out-CoreExpr, roll-out-CoreExpr}
+use Rattle.xanadu_tree.specs.declared.expr.CoreExpr.TheOpen as open_expr
+use Rattle.xanadu_tree.specs.declared.expr.CoreExpr.TheVariants as expr
 use Rattle.xanadu_tree.specs.declared.expr.Op.{Op}
 use Rattle.xanadu_tree.specs.declared.expr.Op.TheVariants.{Add, Sub}
 use Rattle.xanadu_tree.specs.declared.linear.Linear.{Linear}
+use Rattle.xanadu_tree.specs.declared.program.CoreFun.{CoreFun}
 use Rattle.xanadu_tree.specs.declared.types.CoreTy.{CoreTy}
 use Rattle.xanadu_tree.specs.declared.types.CoreTy.TheVariants as ty
 use Rattle.xanadu_tree.specs.declared.types.Kind.{Kind}
@@ -22,7 +28,10 @@ use Rattle.xanadu_tree.specs.declared.types.Kind.TheVariants as kind
 use Rattle.xanadu_tree.specs.declared.types.Packing.{Packing}
 use Rattle.xanadu_tree.specs.declared.types.Quant.{Quant}
 use Rattle.xanadu_tree.specs.Plain as plain
+use Rattle.xanadu_tree.specs.PlainOf.{plain_expr, plain_fun, to_links, expr_step}
+use Rattle.xanadu_tree.proofs.Equations.{plain_expr-Int, plain_expr-Var, plain_expr-Chain}
 use Rattle.xanadu_tree.specs.Small.{IsSmall, IsSum, IsOperand, IsSumOp, AreSumLinks, links_len, int_of, free, number_function, number_program}
+use Rattle.xanadu_driver.specs.Lowering.{plain_links}
 use Rattle.xanadu_driver.specs.Forms.{returned, returned_by, is_sum_op, is_operand, is_link, are_links, are_few, is_chain, is_sum, is_term, is_variable, is_int_of, are_ints_from, is_int_kind, are_int_kinds, is_free, has_small_params, has_small_result, has_small_kinds, has_small_body, is_small_function, is_small_alone, is_small}
 
 both : (x y : Bool) → x ≡ true → y ≡ true → (x && y) ≡ true
@@ -176,10 +185,16 @@ free_passes count = both (count == count) true (same_passes count count refl) re
 
 -- ---- bodies
 
+returned_stmt : (value : plain.Expr) (s : plain.Stmt) → returned_by s ≡ Some value → (at : ℕ) × (s ≡ plain.Return (Some value) at)
+returned_stmt value (plain.Return (Some v) at) e = (at, ap (λ (w : plain.Expr). plain.Return (Some w) at) (same_Some v value e))
+returned_stmt value (plain.Return None at) e = absurd cc
+returned_stmt value _ e = absurd cc
+
 returns_it : (value : plain.Expr) (body : plain.Stmts) → returned body ≡ Some value → (at : ℕ) × (body ≡ plain.AStmt (plain.Return (Some value) at) plain.NoStmt)
-returns_it value (plain.AStmt (plain.Return (Some v) at) plain.NoStmt) e =
-    (at, ap (λ (w : plain.Expr). plain.AStmt (plain.Return (Some w) at) plain.NoStmt) (same_Some v value e))
-returns_it value _ e = absurd cc
+returns_it value plain.NoStmt e = absurd cc
+returns_it value (plain.AStmt s plain.NoStmt) e =
+    let r = returned_stmt value s e in (r.0, ap (λ (t : plain.Stmt). plain.AStmt t plain.NoStmt) r.1)
+returns_it value (plain.AStmt s (plain.AStmt t more)) e = absurd cc
 
 -- the body returns a sum
 record Body (fun : plain.Fun) : Type 0 where
@@ -302,3 +317,59 @@ passed_is_small core h =
 -- a small core passes
 pub small_passes : (core : plain.Program) → IsSmall core → is_small core ≡ true
 small_passes core s = ap is_small s.is ∙ function_passes s.count s.value s.return_at s.at s.few s.sum
+
+-- ---- the same of trees in memory
+
+-- a node that is neither a literal nor a variable is no operand: said of a node whose children are seen in some way
+open_operand : (count : ℕ) (view : CoreExpr → plain.Expr) (node : open_expr.CoreExpr-F CoreExpr) → ((n : ℤ) → roll-CoreExpr node ≡ expr.Int n → ⊥)
+    → ((x : ℕ) → roll-CoreExpr node ≡ expr.Var x → ⊥) → is_operand count (expr_step (map-CoreExpr CoreExpr plain.Expr view node)) ≡ false
+open_operand count view (open_expr.Int n) no_int no_var = absurd (no_int n (expr.rolls-Int n))
+open_operand count view (open_expr.Var x) no_int no_var = absurd (no_var x (expr.rolls-Var x))
+open_operand count view _ no_int no_var = refl
+
+pub other_operand : (count : ℕ) (e : CoreExpr) → ((n : ℤ) → e ≡ expr.Int n → ⊥) → ((x : ℕ) → e ≡ expr.Var x → ⊥) → is_operand count (plain_expr e) ≡ false
+unfolding plain_expr
+other_operand count e no_int no_var =
+    ap (is_operand count) (fold_out-CoreExpr plain.Expr expr_step e)
+    ∙ open_operand count (fold-CoreExpr plain.Expr expr_step) (out-CoreExpr e) (λ n is. no_int n (sym (roll-out-CoreExpr e) ∙ is))
+    (λ x is. no_var x (sym (roll-out-CoreExpr e) ∙ is))
+
+-- a node that is no chain is a sum where it is an operand
+open_sum : (count : ℕ) (view : CoreExpr → plain.Expr) (node : open_expr.CoreExpr-F CoreExpr)
+    → ((first : Box CoreExpr Global) (rest : Vec (Op × CoreExpr × ℕ) Global) → roll-CoreExpr node ≡ expr.Chain first rest → ⊥)
+    → is_operand count (expr_step (map-CoreExpr CoreExpr plain.Expr view node)) ≡ is_sum count (expr_step (map-CoreExpr CoreExpr plain.Expr view node))
+open_sum count view (open_expr.Chain first rest) no_chain = absurd (no_chain first rest (expr.rolls-Chain first rest))
+open_sum count view _ no_chain = refl
+
+pub other_sum : (count : ℕ) (e : CoreExpr) → ((first : Box CoreExpr Global) (rest : Vec (Op × CoreExpr × ℕ) Global) → e ≡ expr.Chain first rest → ⊥)
+    → is_operand count (plain_expr e) ≡ is_sum count (plain_expr e)
+unfolding plain_expr
+other_sum count e no_chain =
+    let f = fold_out-CoreExpr plain.Expr expr_step e in
+    ap (is_operand count) f
+    ∙ open_sum count (fold-CoreExpr plain.Expr expr_step) (out-CoreExpr e) (λ first rest is. no_chain first rest (sym (roll-out-CoreExpr e) ∙ is))
+    ∙ ap (is_sum count) (sym f)
+
+pub links_len-to_links : (links : List (Op × CoreExpr × ℕ)) → links_len (to_links (plain_links links)) ≡ length links
+links_len-to_links [] = refl
+links_len-to_links (l ∷ ls) = let more = links_len-to_links ls in omega (arith, more)
+
+pub ruleset operands = (plain_expr-Int, plain_expr-Var, other_operand)
+
+pub ruleset sums = (plain_expr-Chain, other_sum)
+
+pub ruleset counts = (links_len-to_links)
+
+-- none, or two functions and more
+pub not_alone : (funs : List CoreFun) → (length funs ≡ 1 → ⊥) → is_small_alone (map plain_fun funs) ≡ false
+not_alone [] other = refl
+not_alone (f ∷ []) other = absurd (other refl)
+not_alone (f ∷ g ∷ funs) other = refl
+
+-- one function
+pub one_alone : (funs : List CoreFun) (f : CoreFun) → length funs ≡ 1 → f ≡ get_or funs 0 f → is_small_alone (map plain_fun funs) ≡ is_small_function (plain_fun f)
+one_alone [] f one is = absurd (omega (arith, one))
+one_alone (g ∷ []) f one is = ap (λ x. is_small_function (plain_fun x)) (sym is)
+one_alone (g ∷ h ∷ funs) f one is = absurd (omega (arith, one))
+
+pub ruleset lone = (not_alone, one_alone)

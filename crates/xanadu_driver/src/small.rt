@@ -31,13 +31,14 @@ fn passes(core: &Core) -> bool
     core.types.as_slice().len() == 0 && core.main == 0 && is_small_alone(core.funs.as_slice())
 }
 
+#[tactic(auto, using(crate::proofs::SmallCores::lone))]
 fn is_small_alone(funs: &[CoreFun]) -> bool
     ensures { result ≡ spec.is_small_alone (map plain_fun funs.now) }
 {
-    match funs {
-        [fun] => is_small_function(fun),
-        _ => false,
+    if funs.len() != 1 {
+        return false;
     }
+    is_small_function(&funs[0])
 }
 
 fn is_small_function(fun: &CoreFun) -> bool
@@ -177,16 +178,21 @@ fn returned_by(stmt: &CoreStmt) -> Option<&CoreExpr>
 }
 
 /// Whether the expression is one operand, or 2 to 100 of them with signs between.
-#[tactic(auto, using(xanadu_tree::proofs::Equations::plain_trees))]
+#[tactic(auto, using(crate::proofs::SmallCores::sums))]
 fn is_sum(count: usize, value: &CoreExpr) -> bool
     ensures { result ≡ spec.is_sum count (plain_expr value.now) }
 {
     match value {
-        CoreExpr::Chain { first, rest } => {
-            is_operand(count, first) && are_few(rest.len()) && are_links(count, rest.as_slice())
-        }
+        CoreExpr::Chain { first, rest } => is_chain(count, first, rest.as_slice()),
         item => is_operand(count, item),
     }
+}
+
+#[tactic(auto, using(crate::proofs::SmallCores::counts))]
+fn is_chain(count: usize, first: &CoreExpr, rest: &[(Op, CoreExpr, u32)]) -> bool
+    ensures { result ≡ spec.is_chain count (plain_expr first.now) (to_links (plain_links rest.now)) }
+{
+    is_operand(count, first) && are_few(rest.len()) && are_links(count, rest)
 }
 
 fn are_few(links: usize) -> bool
@@ -224,21 +230,20 @@ fn is_sum_op(op: Op) -> bool
 }
 
 /// Whether the expression is a literal, or one of so many parameters.
-#[tactic(auto, using(xanadu_tree::proofs::Equations::plain_trees))]
+#[tactic(auto, using(crate::proofs::SmallCores::operands))]
 fn is_operand(count: usize, item: &CoreExpr) -> bool
     ensures { result ≡ spec.is_operand count (plain_expr item.now) }
 {
     match item {
-        CoreExpr::Int(number) => is_word(number),
+        CoreExpr::Int(number) => is_word(*number),
         CoreExpr::Var(variable) => (*variable as usize) < count,
         _ => false,
     }
 }
 
 /// Every number of this type fits a word.
-fn is_word(number: &i64) -> bool
-    ensures { result ≡ fits_word number.now }
+fn is_word(number: i64) -> bool
+    ensures { result ≡ fits_word number }
 {
-    let _number = *number;
     true
 }

@@ -1,6 +1,6 @@
 //! From the bytes of a source to its core: the passes in their order.
 
-ghost use Rattle.std.specs.Prelude.{◌≤◌, length, IfOk, IfErr};
+ghost use Rattle.std.specs.Prelude.{◌≡◌, ◌≤◌, length, IfOk, IfErr};
 ghost use Rattle.xanadu_tree.specs.PlainOf.{plain_core};
 ghost use Rattle.xanadu_tree.specs.PlainTreeOf.{plain_tree};
 ghost use Rattle.xanadu_tree.specs.Small.{IsSmall};
