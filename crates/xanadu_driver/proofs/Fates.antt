@@ -65,9 +65,10 @@ dropped_none (suc n) = refl
 taken_more : (tokens : List Token) (n m : ℕ) → n ≤ m → take m tokens ≡ take n tokens ++ take (m - n) (drop n tokens)
 taken_more [] n m le =
     taken_none m ∙ sym (ap₂ (λ (a b : List Token). a ++ b) (taken_none n) (ap (take (m - n)) (dropped_none n) ∙ taken_none (m - n)))
-taken_more (t ∷ ts) zero m le = ap (λ (k : ℕ). take k (t ∷ ts)) (omega arith)
+taken_more (t ∷ ts) zero m le = let e : m ≡ m - 0 = omega arith in ap (λ (k : ℕ). take k (t ∷ ts)) e
 taken_more (t ∷ ts) (suc n) zero le = absurd (omega (arith, le))
-taken_more (t ∷ ts) (suc n) (suc m) le = ap (λ (l : List Token). t ∷ l) (taken_more ts n m (omega (arith, le)))
+taken_more (t ∷ ts) (suc n) (suc m) le =
+    let e : suc m - suc n ≡ m - n = omega arith in rw e (ap (λ (l : List Token). t ∷ l) (taken_more ts n m (omega (arith, le))))
 
 begins_less : (tokens : List Token) (n m : ℕ) → n ≤ m → Begins (take m tokens) → Begins (take n tokens)
 begins_less tokens n m le h = begins_front (take n tokens) (take (m - n) (drop n tokens)) (subst Begins (taken_more tokens n m le) h)
@@ -98,6 +99,10 @@ kind_or d (Err fault) = fault.kind
 place_or : ℕ → Result plain.Program Fault → ℕ
 place_or d (Ok core) = d
 place_or d (Err fault) = fault.at
+
+same_shape : (k l : ShapeKind) (a b : ℕ) → of_shape a k ≡ of_shape b l → refusal.Shape k a ≡ refusal.Shape l b
+unfolding kind_or place_or
+same_shape k l a b e = ap₂ refusal.Shape (ap (kind_or k) e) (ap (place_or a) e)
 
 module _ (bytes : List ℕ) where
   one_written : (a b : tree.Tree) → HasTree bytes a → HasTree bytes b → a ≡ b
@@ -135,9 +140,6 @@ module _ (bytes : List ℕ) where
   one_shape : (k l : ShapeKind) (a b : ℕ) → IsShapeFault bytes k a → IsShapeFault bytes l b → refusal.Shape k a ≡ refusal.Shape l b
   one_shape k l a b x y =
       same_shape k l a b (sym x.fault ∙ ap (λ (t : tree.Tree). shape t (length bytes)) (one_written x.written y.written x.has y.has) ∙ y.fault)
-    where
-      same_shape : (k l : ShapeKind) (a b : ℕ) → of_shape a k ≡ of_shape b l → refusal.Shape k a ≡ refusal.Shape l b
-      same_shape k l a b e = ap₂ refusal.Shape (ap (kind_or k) e) (ap (place_or a) e)
 
   -- a source is refused for one thing at most
   pub one_refusal : (r s : Refusal) → IsRefused bytes r → IsRefused bytes s → r ≡ s
