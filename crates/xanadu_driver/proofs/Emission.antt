@@ -20,8 +20,8 @@ use Rattle.xanadu_tree.proofs.Equations.{plain_stmt-Return}
 use Rattle.xanadu_tree.specs.Plain as plain
 use Rattle.xanadu_tree.specs.PlainOf.{plain_expr, plain_stmt, plain_block, plain_fun, plain_core, to_links, expr_step, stmt_step}
 use Rattle.xanadu_tree.specs.Small.{IsSmall, int_of, AreSumLinks, IsOperand, IsSum, IsSumOp}
-use Rattle.xanadu_driver.specs.Reading.{plain_links}
-use Rattle.xanadu_driver.specs.Lowering.{slot, item_code, item_place, sum_code, sum_place, entry_code, link_code, links_code, links_place, returned, returned_by}
+use Rattle.xanadu_driver.specs.Forms.{returned, returned_by}
+use Rattle.xanadu_driver.specs.Lowering.{plain_links, slot, item_code, item_place, sum_code, sum_place, entry_code, link_code, links_code, links_place}
 
 pub entry_code-more : (param : ℕ) → entry_code (param + 1) ≡ entry_code param ++ instr.Mv (slot param) param ∷ []
 entry_code-more param = map-range_with_len_more (λ p. instr.Mv (slot p) p) 0 param param (omega arith)

@@ -1,11 +1,8 @@
-pub mod Chains
-pub mod Complete
 pub mod Emission
-pub mod Pieces
+pub mod Fates
 pub mod Ranges
 pub mod Simulation
-pub mod Sound
+pub mod SmallCores
 pub mod Statuses
 pub mod Stretches
-pub mod Turns
 pub mod Whole

@@ -1,5 +1,5 @@
--- A source of the small form and its text.
-use Rattle.std.proofs.Common.{◌≡◌, ℕ, zero, suc, ◌≤◌, ℤ, ◌+ℤ◌, ◌-ℤ◌, Bool, true, false, cond, List, length, Option, Some, None, Result, Ok, Err, sym, ap, ◌∙◌, subst}
+-- A source that has a small core, and its text.
+use Rattle.std.proofs.Common.{◌≡◌, ℕ, zero, suc, ◌≤◌, ℤ, ◌+ℤ◌, ◌-ℤ◌, Bool, true, false, cond, List, length, Option, Some, None, sym, ap, ◌∙◌, subst}
 use Rattle.xan_io.specs.declared.arg.Arg.{Arg}
 use Rattle.xan_io.specs.Agreement.{Agree}
 use Rattle.xan_io.specs.Contents.{replaced}
@@ -9,33 +9,18 @@ use Rattle.dtal_code.specs.Machine.{fits_word}
 use Rattle.dtal_code.specs.Text.{Spells, program_text}
 use Rattle.dtal_code.proofs.Arguments.{length-arg_words, fault-none_count}
 use Rattle.dtal_code.proofs.Steps.{get_within}
-use Rattle.xanadu_lexer.specs.declared.error.LexError.{LexError}
-use Rattle.xanadu_lexer.specs.declared.token.Token.{Token}
-use Rattle.xanadu_lexer.specs.Lexing.{lexed}
 use Rattle.xanadu_tree.specs.declared.expr.Op.{Op}
 use Rattle.xanadu_tree.specs.declared.expr.Op.TheVariants.{Add, Sub, Mul, Div, Mod}
 use Rattle.xanadu_tree.specs.Plain as plain
 use Rattle.xanadu_tree.specs.Small.{IsSmall, IsSum, IsOperand, IsSumOp, AreSumLinks, number_program}
-use Rattle.xanadu_driver.specs.declared.reader.NotSmall.{NotSmall}
-use Rattle.xanadu_driver.specs.declared.reader.NotSmall.TheVariants.{Form}
-use Rattle.xanadu_driver.specs.Correct.{HasEnded, HasFault, Translates}
-use Rattle.xanadu_driver.specs.Grammar.{SmallReads, ReadsSmall}
+use Rattle.xanadu_driver.specs.Correct.{HasEnded, Translates}
 use Rattle.xanadu_driver.specs.Lowering.{straight_of}
+use Rattle.xanadu_driver.specs.Source.{IsCore}
 use Rattle.xanadu_driver.specs.Meaning.{Computed, Number, Overflows, Undefined, and_then, known, operator, value, links_value, how_of, source_fault, source_outcome}
-use Rattle.xanadu_driver.specs.Reading.{small_of, Fails}
-use Rattle.xanadu_driver.proofs.Complete.{small_complete}
 use Rattle.xanadu_driver.proofs.Ranges.{straight_spelled}
 use Rattle.xanadu_driver.proofs.Simulation.{faults_same, follows, small_agrees}
-use Rattle.xanadu_driver.proofs.Sound.{small_sound}
 
--- ---- what is read is small
-
-small_is : (tokens : List Token) (program : plain.Program) → ReadsSmall tokens program → IsSmall program
-small_is tokens program r =
-    record { count = length r.names; value = r.value; return_at = r.return_at; at = r.at; few = r.few; sum = r.sum; is = r.is }
-
-pub read_is_small : (tokens : List Token) (program : plain.Program) → small_of tokens ≡ Some program → IsSmall program
-read_is_small tokens program e = small_is tokens program (small_sound tokens program e)
+-- ---- the text
 
 pub lowered_spelled : (core : plain.Program) (program : Straight) → IsSmall core → ((small : IsSmall core) → program ≡ straight_of small.count small.value)
     → (bytes : List ℕ) × Spells bytes program
@@ -43,29 +28,6 @@ lowered_spelled core program small is = (
   program_text (straight_of small.count small.value),
   subst (Spells (program_text (straight_of small.count small.value))) (sym (is small)) (straight_spelled small.count small.value small.few small.sum),
 )
-
--- ---- what is not of the small form
-
-or_tokens : List Token → Result (List Token) LexError → List Token
-or_tokens d (Ok tokens) = tokens
-or_tokens d (Err error) = d
-
-one_list : (a b : List Token) → ◌≡◌ {A = Result (List Token) LexError} (Ok a) (Ok b) → a ≡ b
-unfolding or_tokens
-one_list a b e = ap (or_tokens a) e
-
-pub no_program : (source : List ℕ) (tokens : List Token) → lexed source ≡ Ok tokens → small_of tokens ≡ None → (core : plain.Program) → SmallReads source core → ⊥
-no_program source tokens is none core reads =
-    let same = one_list tokens reads.tokens (sym is ∙ reads.lexed) in
-    let some = small_complete reads.tokens core reads.small in
-    let none' : small_of reads.tokens ≡ None = ap small_of (sym same) ∙ none in
-    cc (some, none')
-
-pub no_tokens : (source : List ℕ) → HasFault (lexed source) → (core : plain.Program) → SmallReads source core → ⊥
-no_tokens source fault core reads = subst HasFault reads.lexed fault
-
-pub fails_form : {Y : Type 0} (error : NotSmall) (read : Option Y) → error ≡ Form → Fails error read → read ≡ None
-fails_form {Y} error read is fails = subst (λ e. Fails e read) is fails
 
 -- ---- both sides end
 
@@ -122,13 +84,11 @@ ends count sum return_at at args heap (suc depth) fuel is none =
 
 -- ---- the whole
 
-pub translates : (source text : List ℕ) (tokens : List Token) (core : plain.Program) (program : Straight) (instructions : ℕ) → length source ≤ 1048576
-    → lexed source ≡ Ok tokens → small_of tokens ≡ Some core → ((small : IsSmall core) → program ≡ straight_of small.count small.value)
+pub translates : (source text : List ℕ) (core : plain.Program) (program : Straight) (instructions : ℕ) → IsCore source core → IsSmall core
+    → ((small : IsSmall core) → program ≡ straight_of small.count small.value)
     → Spells text program → ((bytes : List ℕ) (p q : Straight) → Spells bytes p → Spells bytes q → p ≡ q) → instructions ≡ length program.code
     → Translates source text instructions
-translates source text tokens core program instructions short lexes reads lowers spells one counted =
-    let r = small_sound tokens core reads in
-    let s = small_is tokens core r in
+translates source text core program instructions has s lowers spells one counted =
     let is = lowers s in
     let whole = number_program s.count s.value s.return_at s.at in
     let straight = straight_of s.count s.value in
@@ -137,7 +97,8 @@ translates source text tokens core program instructions short lexes reads lowers
     record {
       core = core;
       program = program;
-      read = record { short = short; tokens = tokens; lexed = lexes; small = r };
+      has = has;
+      small = s;
       spelled = spells;
       only = λ other h. one text other program h spells;
       counted = counted;

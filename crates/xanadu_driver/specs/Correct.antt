@@ -1,7 +1,5 @@
 -- What it means that a text is built of a source.
-use Rattle.std.specs.Prelude.{◌≡◌, ℕ, zero, suc, List, length, Option, None, Result, Ok, Err}
-use Rattle.xanadu_lexer.specs.declared.error.LexError.{LexError}
-use Rattle.xanadu_lexer.specs.declared.token.Token.{Token}
+use Rattle.std.specs.Prelude.{◌≡◌, ℕ, zero, suc, List, length, Option, None}
 use Rattle.xan_io.specs.declared.arg.Arg.{Arg}
 use Rattle.xan_io.specs.Agreement.{Agree}
 use Rattle.xan_io.specs.Contents.{replaced, LeavesPrefix}
@@ -11,8 +9,9 @@ use Rattle.dtal_code.specs.declared.straight.Straight.{Straight}
 use Rattle.dtal_code.specs.Entry.{straight_fault, straight_outcome}
 use Rattle.dtal_code.specs.Text.{Spells}
 use Rattle.xanadu_tree.specs.Plain as plain
-use Rattle.xanadu_driver.specs.Grammar.{SmallReads}
+use Rattle.xanadu_tree.specs.Small.{IsSmall}
 use Rattle.xanadu_driver.specs.Meaning.{source_fault, source_outcome}
+use Rattle.xanadu_driver.specs.Source.{IsCore}
 
 -- a run over so many activations has ended: with a number or an overflow, and for want of an activation where there may be none
 abbrev pub HasEnded : (depth : ℕ) → How → Type 0
@@ -21,17 +20,13 @@ HasEnded (suc _) (Returned _) = Unit {0}
 HasEnded (suc _) Overflow = Unit {0}
 HasEnded _ _ = ⊥
 
--- the source has a fault where its tokens are wanted
-abbrev pub HasFault : Result (List Token) LexError → Type 0
-HasFault (Ok tokens) = ⊥
-HasFault (Err error) = Unit {0}
-
--- The source is read as a program, and the text spells exactly one straight program, of so many instructions; the two agree for all
+-- The source has a core, which is small, and the text spells exactly one straight program, of so many instructions; the two agree for all
 -- arguments, all sizes of the store and all depths, and both end wherever the arguments have no fault.
 pub record Translates (source text : List ℕ) (instructions : ℕ) : Type 0 where
   pub core : plain.Program
   pub program : Straight
-  pub read : SmallReads source core
+  pub has : IsCore source core
+  pub small : IsSmall core
   pub spelled : Spells text program
   pub only : (other : Straight) → Spells text other → other ≡ program
   pub counted : instructions ≡ length program.code

@@ -1,9 +1,8 @@
 pub mod Answers
 pub mod Correct
-pub mod Grammar
+pub mod Forms
 pub mod Lowering
 pub mod Meaning
-pub mod Reading
 pub mod Report
-pub mod Steps
+pub mod Source
 pub mod Words

@@ -1,13 +1,15 @@
 -- The code of a small program. Each place of the function lives in a slot: the parameters in the first, then two temporaries. An
 -- instruction works on registers, so that operands come from their slots to `r13` and `r14`, and a result goes from `r13` to its slot.
-use Rattle.std.specs.Prelude.{ℕ, ℤ, ◌+◌, ◌==◌, List, [], ◌∷◌, ◌++◌, map, codes, Option, None, if◌then◌else◌}
+use Rattle.std.specs.Prelude.{ℕ, ℤ, ◌+◌, ◌==◌, List, [], ◌∷◌, ◌++◌, map, codes, if◌then◌else◌}
 use Rattle.std.specs.List.{range_with_len}
 use Rattle.dtal_code.specs.declared.op.Op.{Op as Instr}
 use Rattle.dtal_code.specs.declared.op.Op.TheVariants as instr
 use Rattle.dtal_code.specs.declared.straight.Straight.{Straight}
+use Rattle.xanadu_tree.specs.declared.expr.CoreExpr.{CoreExpr}
 use Rattle.xanadu_tree.specs.declared.expr.Op.{Op}
 use Rattle.xanadu_tree.specs.declared.expr.Op.TheVariants.{Add, Sub}
 use Rattle.xanadu_tree.specs.Plain as plain
+use Rattle.xanadu_tree.specs.PlainOf.{plain_expr}
 
 -- the first and the second register that operands come to
 abbrev pub left_register : ℕ
@@ -58,6 +60,10 @@ abbrev pub link_code : (first left : ℕ) → Op → plain.Expr → List Instr
 link_code first left op right =
     item_code (right_temporary first left) right ++ on_places op left (item_place (right_temporary first left) right) first
 
+-- the plain operands behind the first of a chain in memory
+abbrev pub plain_links : List (Op × CoreExpr × ℕ) → List (Op × plain.Expr × ℕ)
+plain_links links = map (λ l. (l.0, plain_expr l.1, l.2)) links
+
 -- the links of a chain: the first has the left operand, and each other one the result before it
 abbrev pub links_code : (first left : ℕ) → plain.Links → List Instr
 links_code first left plain.NoLink = []
@@ -82,12 +88,3 @@ function_code count sum = entry_code count ++ (sum_code count sum ++ instr.Ret (
 
 abbrev pub straight_of : (count : ℕ) → plain.Expr → Straight
 straight_of count sum = record { name = codes "main"; params = count; code = function_code count sum }
-
--- what a body returns that does nothing else
-abbrev pub returned_by : plain.Stmt → Option plain.Expr
-returned_by (plain.Return value _) = value
-returned_by _ = None
-
-abbrev pub returned : plain.Stmts → Option plain.Expr
-returned (plain.AStmt stmt plain.NoStmt) = returned_by stmt
-returned _ = None

@@ -3,12 +3,13 @@ use Rattle.std.specs.Prelude.{◌≡◌, ◌≢◌, ℕ, List, Option, Some}
 use Rattle.std.specs.Io.KnownBytes.{append_known}
 use Rattle.xan_io.specs.Faults.{Rose}
 use Rattle.xan_io.specs.Written.{AppendsPrefix}
-use Rattle.xanadu_tree.specs.Plain as plain
+use Rattle.scope_shapes.specs.declared.error.ShapeKind.{ShapeKind}
 use Rattle.xanadu_driver.specs.declared.answer.Answer.{Answer}
 use Rattle.xanadu_driver.specs.declared.answer.Answer.TheVariants as answer
-use Rattle.xanadu_driver.specs.Answers.{status_of, line_of, built_line}
+use Rattle.xanadu_driver.specs.declared.refusal.Refusal.{Refusal}
+use Rattle.xanadu_driver.specs.Answers.{status_of, line_of, built_line, refusal_status, refusal_line}
 use Rattle.xanadu_driver.specs.Correct.{Wrote, Cut}
-use Rattle.xanadu_driver.specs.Grammar.{SmallReads}
+use Rattle.xanadu_driver.specs.Source.{IsRefused}
 use Rattle.xanadu_driver.specs.Words.{Meant, Build}
 
 -- ---- names, counts and contents of a command to build
@@ -33,10 +34,10 @@ pub record TargetRose (meant : Option Meant) (before after : List ℕ → ℕ) :
 abbrev pub IsNoTarget : Option Meant → List ℕ → Type 0
 IsNoTarget meant name = (source target : List ℕ) → meant ≡ Some (Build source target) → name ≢ target
 
--- where contents are told, the source is not of the small form
-pub record IsNotSmall (meant : Option Meant) (content : List ℕ → Option (List ℕ)) : Type 0 where
+-- where contents are told, the source is refused for this
+pub record IsRefusedSource (meant : Option Meant) (refusal : Refusal) (content : List ℕ → Option (List ℕ)) : Type 0 where
   pub build : IsBuild meant
-  pub form : (told : List ℕ) → content build.source ≡ Some told → (core : plain.Program) → SmallReads told core → ⊥
+  pub refused : (told : List ℕ) → content build.source ≡ Some told → IsRefused told refusal
 
 -- where contents are told, the source has a text, and the target holds what it held or a prefix of that
 pub record IsCut (meant : Option Meant) (before after : List ℕ → Option (List ℕ)) : Type 0 where
@@ -95,7 +96,7 @@ pub record SaidPart (answer : Answer) (status faults faults' : ℕ) (before afte
 
 -- ---- the statuses
 
--- one of 0, 2, 3, 4, 6 and 20
+-- one of 0, 2 to 9 and 20
 pub record IsStatus (status : ℕ) : Type 0 where
   pub answer : Answer
   pub is : status ≡ status_of answer
@@ -105,3 +106,23 @@ pub record Built (meant : Option Meant) (before after : List ℕ → Option (Lis
   pub instructions : ℕ
   pub built : IsBuilt meant instructions before after
   pub said : out' ≡ append_known out (built_line instructions)
+
+-- The source is refused for this, and its line is appended.
+pub record Refuses (meant : Option Meant) (refusal : Refusal) (content : List ℕ → Option (List ℕ)) (out out' : Option (List ℕ)) : Type 0 where
+  pub is : IsRefusedSource meant refusal content
+  pub said : out' ≡ append_known out (refusal_line refusal)
+
+-- The source is refused for this with its place, and its line is appended.
+pub record RefusesAt (meant : Option Meant) (refusal : ℕ → Refusal) (content : List ℕ → Option (List ℕ)) (out out' : Option (List ℕ)) : Type 0 where
+  pub at : ℕ
+  pub refuses : Refuses meant (refusal at) content out out'
+
+-- The same for a fault of its shape of some kind.
+pub record RefusesShape (meant : Option Meant) (refusal : ShapeKind → ℕ → Refusal) (content : List ℕ → Option (List ℕ)) (out out' : Option (List ℕ)) : Type 0 where
+  pub kind : ShapeKind
+  pub refuses : RefusesAt meant (refusal kind) content out out'
+
+-- the status and the line of a refusal
+pub record IsRefusal (refusal : Refusal) (status : ℕ) (out out' : Option (List ℕ)) : Type 0 where
+  pub status_is : status ≡ refusal_status refusal
+  pub said : out' ≡ append_known out (refusal_line refusal)

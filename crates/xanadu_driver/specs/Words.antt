@@ -1,11 +1,16 @@
 -- What the words of a command line mean.
-use Rattle.std.specs.Prelude.{ℕ, Bool, true, not, ◌&&◌, ◌==◌, List, [], ◌∷◌, codes, Option, Some, None, if◌then◌else◌}
+use Rattle.std.specs.Prelude.{ℕ, Bool, true, not, ◌&&◌, ◌==◌, List, [], ◌∷◌, codes, map, Option, Some, None, if◌then◌else◌}
+use Rattle.std.specs.Borrow.{Bor}
 use Rattle.std.specs.Str.{bytes_eq}
 use Rattle.xanadu_driver.specs.declared.words.BuildCommand.{BuildCommand}
 
 -- to build the source of one name into the text of another
 pub data Meant : Type 0 where
   Build : (source target : List ℕ) → Meant
+
+-- the bytes of words
+abbrev pub texts : List (Bor (List ℕ)) → List (List ℕ)
+texts words = map (λ word. word.now) words
 
 -- a word is a value unless it begins with `-` and is longer than that
 abbrev pub is_value : List ℕ → Bool

@@ -2,13 +2,14 @@
 
 ghost use Rattle.std.specs.Prelude.{◌≡◌, ◌≢◌, ◌≤◌, ℕ, List, Some, length};
 ghost use Rattle.xan_io.specs.Faults.{Rose};
-ghost use Rattle.xan_io.specs.Contents.{replaced, LeavesPrefix};
-ghost use Rattle.xanadu_tree.specs.Plain as plain;
-ghost use Rattle.xanadu_driver.specs.Grammar.{SmallReads};
-ghost use Rattle.xanadu_driver.specs.Correct.{Translates, Wrote, Cut};
+ghost use Rattle.xanadu_driver.specs.declared.refusal.Refusal.{Refusal};
+ghost use Rattle.xanadu_driver.specs.Correct.{Wrote, Cut};
+ghost use Rattle.xanadu_driver.specs.Report.{Keeps};
+ghost use Rattle.xanadu_driver.specs.Source.{IsRefused};
 
 use crate::answer::Answer;
-use crate::reader::NotSmall;
+use crate::refusal::Refusal;
+use crate::source::SourceError;
 use crate::translate::translate;
 use std::alloc::Global;
 use xan_io::{FileFault, FileRead, Files};
@@ -22,16 +23,14 @@ pub fn build<F: Files>(alloc: Global, files: &mut F, source: &str, target: &str)
     ensures others { (name : List ℕ) → name ≢ target.now → F.content files.new name ≡ F.content files.old name }
     ensures read { result ≡ Answer.ReadFailed → Rose (F.read_faults files.old source.now) (F.read_faults files.new source.now) }
     ensures write { result ≡ Answer.WriteFailed → Rose (F.write_faults files.old target.now) (F.write_faults files.new target.now) }
-    ensures form { result ≡ Answer.NotBuilt → (told : List ℕ) → F.content files.old source.now ≡ Some told → (core : plain.Program) → SmallReads told core → ⊥ }
-    ensures kept_read { result ≡ Answer.ReadFailed → F.content files.new target.now ≡ F.content files.old target.now }
-    ensures kept_form { result ≡ Answer.NotBuilt → F.content files.new target.now ≡ F.content files.old target.now }
-    ensures kept_memory { result ≡ Answer.Memory → F.content files.new target.now ≡ F.content files.old target.now }
+    ensures refused { (refusal : Refusal) → result ≡ Answer.Refused refusal → (told : List ℕ) → F.content files.old source.now ≡ Some told → IsRefused told refusal }
+    ensures kept { Keeps result → F.content files.new target.now ≡ F.content files.old target.now }
     ensures cut { result ≡ Answer.WriteFailed → (told : List ℕ) → F.content files.old source.now ≡ Some told → Cut told (F.content files.old target.now) (F.content files.new target.now) }
     ensures built { (instructions : ℕ) → result ≡ Answer.Built instructions → (told : List ℕ) → F.content files.old source.now ≡ Some told → Wrote told instructions (F.content files.old target.now) (F.content files.new target.now) }
 {
     match files.read(alloc, source, SOURCE_MOST) {
         Ok(FileRead::Whole(bytes)) => build_bytes(alloc, files, bytes.as_slice(), target),
-        Ok(FileRead::TooLong) => Answer::NotBuilt,
+        Ok(FileRead::TooLong) => Answer::Refused(Refusal::Length),
         Err(FileFault::Failed) => Answer::ReadFailed,
         Err(FileFault::Memory) => Answer::Memory,
     }
@@ -44,9 +43,8 @@ fn build_bytes<F: Files>(alloc: Global, files: &mut F, source: &[u8], target: &s
     ensures read { result ≢ Answer.ReadFailed }
     ensures others { (name : List ℕ) → name ≢ target.now → F.content files.new name ≡ F.content files.old name }
     ensures write { result ≡ Answer.WriteFailed → Rose (F.write_faults files.old target.now) (F.write_faults files.new target.now) }
-    ensures form { result ≡ Answer.NotBuilt → (core : plain.Program) → SmallReads source.now core → ⊥ }
-    ensures kept_form { result ≡ Answer.NotBuilt → F.content files.new target.now ≡ F.content files.old target.now }
-    ensures kept_memory { result ≡ Answer.Memory → F.content files.new target.now ≡ F.content files.old target.now }
+    ensures refused { (refusal : Refusal) → result ≡ Answer.Refused refusal → IsRefused source.now refusal }
+    ensures kept { Keeps result → F.content files.new target.now ≡ F.content files.old target.now }
     ensures cut { result ≡ Answer.WriteFailed → Cut source.now (F.content files.old target.now) (F.content files.new target.now) }
     ensures built { (instructions : ℕ) → result ≡ Answer.Built instructions → Wrote source.now instructions (F.content files.old target.now) (F.content files.new target.now) }
 {
@@ -56,7 +54,7 @@ fn build_bytes<F: Files>(alloc: Global, files: &mut F, source: &[u8], target: &s
             Err(FileFault::Failed) => Answer::WriteFailed,
             Err(FileFault::Memory) => Answer::Memory,
         },
-        Err(NotSmall::Form) => Answer::NotBuilt,
-        Err(NotSmall::Memory) => Answer::Memory,
+        Err(SourceError::Refused(refusal)) => Answer::Refused(refusal),
+        Err(SourceError::Memory) => Answer::Memory,
     }
 }

@@ -1,17 +1,19 @@
 //! The compiler as a whole: from the words of its command line to a status, a line and a text.
 //!
 //! [`xanadu_top`] reads the source of one name and writes the text of another. Its contract says when each status comes, what each name
-//! holds afterwards, what is said, and that a built text does what its source does. It stands on the lexer, the trees, the assembly
-//! language, and the files and the sink that it is given.
+//! holds afterwards, what is said, and that a built text does what its source does. It stands on the lexer, the parser, the shapes, the
+//! trees, the assembly language, and the files and the sink that it is given.
 #![tactic(auto)]
 
 mod answer;
 mod build;
+mod lines;
 mod lower;
-mod reader;
+mod refusal;
+mod small;
+mod source;
 #[cfg(test)]
 mod tests;
-mod tokens;
 mod top;
 mod translate;
 mod words;

@@ -4,17 +4,17 @@
 //! that operands come from their slots to two scratch registers, and a result goes from the first of them to its slot.
 
 ghost use Rattle.std.specs.Prelude.{◌≡◌, ◌≤◌, ◌<◌, ◌++◌, ◌∷◌, [], List, length, map, IfOk, OnOk, Some};
-ghost use Rattle.std.specs.Option.{option_map};
-ghost use Rattle.xanadu_tree.specs.PlainOf.{plain_expr, plain_stmt, plain_block, plain_core, to_links};
+ghost use Rattle.xanadu_tree.specs.PlainOf.{plain_expr, plain_core, to_links};
 ghost use Rattle.xanadu_tree.specs.Small.{IsSmall, IsSum, IsOperand, IsSumOp, AreSumLinks};
-ghost use Rattle.xanadu_driver.specs.Reading.{plain_links};
 ghost use Rattle.xanadu_driver.specs.Lowering as spec;
+ghost use Rattle.xanadu_driver.specs.Lowering.{plain_links};
 
+use crate::small::returned;
 use dtal_code::{Op as Instr, Straight};
 use std::alloc::Global;
 use xan_io::{Memory, Name};
 use xan_seq::Seq;
-use xanadu_tree::{Core, CoreExpr, CoreStmt, Op};
+use xanadu_tree::{Core, CoreExpr, Op};
 
 /// The registers that the left and the right operand come to; the left one takes the result.
 const LEFT: u8 = 13;
@@ -34,27 +34,6 @@ pub fn lower(alloc: Global, core: &Core) -> Result<Straight, Memory>
         unreachable!()
     };
     lower_function(alloc, fun.params.as_slice().len() as u32, value)
-}
-
-/// What a body returns that does nothing else.
-#[tactic(auto, using(crate::proofs::Emission::bodies))]
-fn returned(body: &[CoreStmt]) -> Option<&CoreExpr>
-    ensures { spec.returned (plain_block body.now) ≡ option_map (λ value. plain_expr value.now) result }
-{
-    if body.len() != 1 {
-        return None;
-    }
-    returned_by(&body[0])
-}
-
-#[tactic(auto, using(crate::proofs::Emission::returns))]
-fn returned_by(stmt: &CoreStmt) -> Option<&CoreExpr>
-    ensures { spec.returned_by (plain_stmt stmt.now) ≡ option_map (λ value. plain_expr value.now) result }
-{
-    match stmt {
-        CoreStmt::Return(value, _at) => value.as_ref(),
-        _ => None,
-    }
 }
 
 /// The code of the function of `count` numbers that returns the sum.

@@ -1,17 +1,13 @@
 //! From the bytes of a source to the text of its program.
 
-ghost use Rattle.std.specs.Prelude.{◌≡◌, ◌≤◌, Ok, IfOk, IsErrOf, length};
-ghost use Rattle.xanadu_tree.specs.Plain as plain;
-ghost use Rattle.xanadu_driver.specs.Grammar.{SmallReads};
-ghost use Rattle.xanadu_lexer.specs.Lexing.{lexed};
-ghost use Rattle.xanadu_driver.specs.Correct.{Translates, HasFault};
+ghost use Rattle.std.specs.Prelude.{◌≤◌, length, IfOk, IfErr};
+ghost use Rattle.xanadu_driver.specs.Correct.{Translates};
+ghost use Rattle.xanadu_driver.specs.Source.{Stops};
 
 use crate::lower::lower;
-use crate::reader::{NotSmall, small_core};
+use crate::source::{SourceError, small_core};
 use dtal_code::{one_program_a_text, print_straight};
 use std::alloc::Global;
-use xan_seq::Seq;
-use xanadu_lexer::{LexError, Token, lex};
 
 /// The text of a program, and how many instructions it has.
 #[derive(Debug, Drop)]
@@ -20,16 +16,14 @@ pub struct Text {
     pub instructions: u32,
 }
 
-/// The text of the source's program, which does what the source does.
-///
-/// `NotSmall::Form` comes exactly where the source is not of the small form.
-pub fn translate(alloc: Global, source: &[u8]) -> Result<Text, NotSmall>
+/// The text of the source's program, which does what the source does. `Refused` tells the first thing that the source is refused for,
+/// behind its length.
+pub fn translate(alloc: Global, source: &[u8]) -> Result<Text, SourceError>
     requires { length source.now ≤ 1048576 }
     ensures text { IfOk result (λ text. Translates source.now text.bytes.items text.instructions) }
-    ensures form { IsErrOf result NotSmall.Form → (core : plain.Program) → SmallReads source.now core → ⊥ }
+    ensures refused { IfErr result (Stops source.now) }
 {
-    let tokens = tokens_of(alloc, source)?;
-    let core = small_core(alloc, tokens.as_slice())?;
+    let core = small_core(alloc, source)?;
     let program = lower(alloc, &core)?;
     let bytes = print_straight(alloc, &program)?;
     // Cites the law: the text spells no other program.
@@ -38,17 +32,4 @@ pub fn translate(alloc: Global, source: &[u8]) -> Result<Text, NotSmall>
         bytes,
         instructions: program.code.as_slice().len() as u32,
     })
-}
-
-/// The tokens of a source, where it has any.
-fn tokens_of(alloc: Global, source: &[u8]) -> Result<Seq<Token>, NotSmall>
-    requires { length source.now ≤ 1048576 }
-    ensures tokens { IfOk result (λ tokens. lexed source.now ≡ Ok tokens) }
-    ensures form { IsErrOf result NotSmall.Form → HasFault (lexed source.now) }
-{
-    match lex(alloc, source) {
-        Ok(tokens) => Ok(tokens),
-        Err(LexError::Fault { .. }) => Err(NotSmall::Form),
-        Err(LexError::Memory) => Err(NotSmall::Memory),
-    }
 }

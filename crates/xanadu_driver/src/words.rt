@@ -3,8 +3,7 @@
 ghost use Rattle.std.specs.Prelude.{◌≡◌};
 ghost use Rattle.std.specs.Option.{option_map};
 ghost use Rattle.xanadu_driver.specs.Words as spec;
-ghost use Rattle.xanadu_driver.specs.Words.{view};
-ghost use Rattle.xanadu_driver.specs.Steps.{texts};
+ghost use Rattle.xanadu_driver.specs.Words.{texts, view};
 
 /// The command that builds the source of one name into the text of another.
 #[derive(Clone, Copy, Debug)]

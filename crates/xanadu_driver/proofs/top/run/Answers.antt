@@ -1,4 +1,4 @@
-use Rattle.xanadu_driver.proofs.Statuses.{kept_by, everywhere}
+use Rattle.xanadu_driver.proofs.Statuses.{everywhere}
 use Rattle.xanadu_driver.proofs.top.run.Goals as goal
 
 pub returns-in-Some-clause-read : goal.returns-in-Some-clause-read
@@ -9,9 +9,9 @@ pub returns-in-Some-clause-write : goal.returns-in-Some-clause-write
 returns-in-Some-clause-write g c = λ failed.
     record { build = record { source = c.in-Some.command.source.now; target = c.in-Some.command.target.now; is = c.in-Some.ensures }; rose = c.build.ensures.write failed }
 
-pub returns-in-Some-clause-form : goal.returns-in-Some-clause-form
-returns-in-Some-clause-form g c = λ not_built.
-    record { build = record { source = c.in-Some.command.source.now; target = c.in-Some.command.target.now; is = c.in-Some.ensures }; form = c.build.ensures.form not_built }
+pub returns-in-Some-clause-refused : goal.returns-in-Some-clause-refused
+returns-in-Some-clause-refused g c = λ refusal is.
+    record { build = record { source = c.in-Some.command.source.now; target = c.in-Some.command.target.now; is = c.in-Some.ensures }; refused = c.build.ensures.refused refusal is }
 
 pub returns-in-Some-clause-cut : goal.returns-in-Some-clause-cut
 returns-in-Some-clause-cut g c = λ failed.
@@ -22,6 +22,4 @@ returns-in-Some-clause-built g c = λ instructions is.
     record { build = record { source = c.in-Some.command.source.now; target = c.in-Some.command.target.now; is = c.in-Some.ensures }; wrote = c.build.ensures.built instructions is }
 
 pub returns-in-Some-clause-kept : goal.returns-in-Some-clause-kept
-returns-in-Some-clause-kept g c = λ keeps.
-    everywhere _ _ c.in-Some.command.target.now c.build.ensures.others
-    (kept_by c.build.result _ keeps (λ none. absurd (c.build.ensures.command none)) c.build.ensures.kept_read c.build.ensures.kept_form c.build.ensures.kept_memory)
+returns-in-Some-clause-kept g c = λ keeps. everywhere _ _ c.in-Some.command.target.now c.build.ensures.others (c.build.ensures.kept keeps)

@@ -1,0 +1,93 @@
+-- What becomes of the bytes of a source: it is refused for one thing, or it has a core that is small.
+--
+-- A source is looked at in this order: its length, its tokens, how deep its brackets nest, its tree, its shape, its form.
+use Rattle.std.specs.Prelude.{◌≡◌, ℕ, ◌≤◌, ◌<◌, List, length, Result, Ok, Err}
+use Rattle.xanadu_lexer.specs.declared.error.LexError.TheVariants as lex_error
+use Rattle.xanadu_lexer.specs.declared.error.LexKind.{LexKind}
+use Rattle.xanadu_lexer.specs.declared.token.Token.{Token}
+use Rattle.xanadu_lexer.specs.Lexing.{lexed}
+use Rattle.xanadu_parser.specs.Faults.{IsFault}
+use Rattle.xanadu_parser.specs.Kinds.{kinds_of}
+use Rattle.xanadu_tree.specs.Nesting.{IsTooNested}
+use Rattle.xanadu_tree.specs.Plain as plain
+use Rattle.xanadu_tree.specs.PlainTree as tree
+use Rattle.xanadu_tree.specs.Small.{IsSmall}
+use Rattle.xanadu_tree.specs.Written.{Parses}
+use Rattle.scope_shapes.specs.declared.error.ShapeKind.{ShapeKind}
+use Rattle.scope_shapes.specs.Faults.{Fault}
+use Rattle.scope_shapes.specs.Shape.{shape}
+use Rattle.xanadu_driver.specs.declared.refusal.Refusal.{Refusal}
+use Rattle.xanadu_driver.specs.declared.refusal.Refusal.TheVariants as refusal
+use Rattle.xanadu_driver.specs.declared.source.SourceError.{SourceError}
+use Rattle.xanadu_driver.specs.declared.source.SourceError.TheVariants as error
+
+-- the greatest length of a source in bytes
+abbrev pub source_most : ℕ
+source_most = 1048576
+
+-- ---- how far a source comes
+
+-- it is short enough, and has these tokens
+pub record HasTokens (bytes : List ℕ) (tokens : List Token) : Type 0 where
+  pub short : length bytes ≤ source_most
+  pub lexed : lexed bytes ≡ Ok tokens
+
+-- its brackets do not nest too deep, and its tokens spell this tree
+pub record HasTree (bytes : List ℕ) (written : tree.Tree) : Type 0 where
+  pub tokens : List Token
+  pub has : HasTokens bytes tokens
+  pub shallow : IsTooNested (kinds_of tokens) → ⊥
+  pub parses : Parses tokens (length bytes) written
+
+-- its tree has this core
+pub record IsCore (bytes : List ℕ) (core : plain.Program) : Type 0 where
+  pub written : tree.Tree
+  pub has : HasTree bytes written
+  pub shaped : shape written (length bytes) ≡ Ok core
+
+-- ---- why it comes no further
+
+-- this is the place of the first byte at which no token begins, or where digits begin that are no number
+pub record IsBytesFault (bytes : List ℕ) (at : ℕ) : Type 0 where
+  pub short : length bytes ≤ source_most
+  pub kind : LexKind
+  pub fault : lexed bytes ≡ Err (lex_error.Fault at kind)
+
+-- too many brackets are open at one of its tokens
+pub record IsNestedSource (bytes : List ℕ) : Type 0 where
+  pub tokens : List Token
+  pub has : HasTokens bytes tokens
+  pub deep : IsTooNested (kinds_of tokens)
+
+-- the tokens before this place begin a program, and with the one that stands there they begin none
+pub record IsParseFault (bytes : List ℕ) (at : ℕ) : Type 0 where
+  pub tokens : List Token
+  pub has : HasTokens bytes tokens
+  pub shallow : IsTooNested (kinds_of tokens) → ⊥
+  pub fault : IsFault tokens (length bytes) at
+
+-- the first fault of its shape
+pub record IsShapeFault (bytes : List ℕ) (kind : ShapeKind) (at : ℕ) : Type 0 where
+  pub written : tree.Tree
+  pub has : HasTree bytes written
+  pub fault : ◌≡◌ {A = Result plain.Program Fault} (shape written (length bytes)) (Err (record { at = at; kind = kind }))
+
+-- it has a core, which is not small
+pub record IsOfOtherForm (bytes : List ℕ) : Type 0 where
+  pub core : plain.Program
+  pub has : IsCore bytes core
+  pub other : IsSmall core → ⊥
+
+-- The source is refused for this. It is refused for one thing at most, and then it has no small core.
+abbrev pub IsRefused : List ℕ → Refusal → Type 0
+IsRefused bytes refusal.Length = source_most < length bytes
+IsRefused bytes (refusal.Bytes at) = IsBytesFault bytes at
+IsRefused bytes refusal.Nesting = IsNestedSource bytes
+IsRefused bytes (refusal.Parse at) = IsParseFault bytes at
+IsRefused bytes (refusal.Shape kind at) = IsShapeFault bytes kind at
+IsRefused bytes refusal.NotBuilt = IsOfOtherForm bytes
+
+-- a source of which nothing came: it is refused, or memory ran out
+abbrev pub Stops : List ℕ → SourceError → Type 0
+Stops bytes (error.Refused refusal) = IsRefused bytes refusal
+Stops bytes error.Memory = Unit {0}
