@@ -1,10 +1,9 @@
 -- A source is refused for one thing at most, and then it has no small core; and it has at most one core.
-use Rattle.std.proofs.Common.{◌≡◌, ℕ, zero, suc, ◌+◌, ◌-◌, ◌<◌, ◌≤◌, List, [], ◌∷◌, ◌++◌, length, take, drop, Result, Ok, Err, refl, sym, ap, ap₂, ◌∙◌, subst, arith, append_assoc}
+use Rattle.std.proofs.Common.{◌≡◌, ℕ, zero, suc, ◌-◌, ◌<◌, ◌≤◌, List, [], ◌∷◌, ◌++◌, length, take, drop, Result, Ok, Err, refl, sym, ap, ap₂, ◌∙◌, subst, arith, append_assoc}
 use Rattle.xanadu_lexer.specs.declared.error.LexError.{LexError}
 use Rattle.xanadu_lexer.specs.declared.error.LexError.TheVariants as lex_error
 use Rattle.xanadu_lexer.specs.declared.error.LexKind.{LexKind}
 use Rattle.xanadu_lexer.specs.declared.token.Token.{Token}
-use Rattle.xanadu_lexer.specs.Lexing.{lexed}
 use Rattle.xanadu_parser.specs.Faults.{Begins, IsFault}
 use Rattle.xanadu_parser.specs.Kinds.{kinds_of}
 use Rattle.xanadu_parser.specs.Parsing.{first_at}
@@ -19,7 +18,7 @@ use Rattle.scope_shapes.specs.Faults.{Fault}
 use Rattle.scope_shapes.specs.Shape.{shape}
 use Rattle.xanadu_driver.specs.declared.refusal.Refusal.{Refusal}
 use Rattle.xanadu_driver.specs.declared.refusal.Refusal.TheVariants as refusal
-use Rattle.xanadu_driver.specs.Source.{source_most, HasTokens, HasTree, IsCore, IsBytesFault, IsNestedSource, IsParseFault, IsShapeFault, IsOfOtherForm, IsRefused}
+use Rattle.xanadu_driver.specs.Source.{source_most, HasTokens, HasTree, IsCore, IsBytesFault, IsNestedSource, IsParseFault, IsShapeFault, IsRefused}
 
 -- ---- tokens
 

@@ -30,9 +30,9 @@ use Rattle.xanadu_tree.specs.declared.types.Quant.{Quant}
 use Rattle.xanadu_tree.specs.Plain as plain
 use Rattle.xanadu_tree.specs.PlainOf.{plain_expr, plain_fun, to_links, expr_step}
 use Rattle.xanadu_tree.proofs.Equations.{plain_expr-Int, plain_expr-Var, plain_expr-Chain}
-use Rattle.xanadu_tree.specs.Small.{IsSmall, IsSum, IsOperand, IsSumOp, AreSumLinks, links_len, int_of, free, number_function, number_program}
+use Rattle.xanadu_tree.specs.Small.{IsSmall, IsSum, IsOperand, IsSumOp, AreSumLinks, links_len, int_of, free, number_function}
 use Rattle.xanadu_driver.specs.Lowering.{plain_links}
-use Rattle.xanadu_driver.specs.Forms.{returned, returned_by, is_sum_op, is_operand, is_link, are_links, are_few, is_chain, is_sum, is_term, is_variable, is_int_of, are_ints_from, is_int_kind, are_int_kinds, is_free, has_small_params, has_small_result, has_small_kinds, has_small_body, is_small_function, is_small_alone, is_small}
+use Rattle.xanadu_driver.specs.Forms.{returned, returned_by, is_sum_op, is_operand, is_link, are_links, are_few, is_sum, is_term, is_int_of, are_ints_from, is_int_kind, are_int_kinds, is_free, has_small_params, has_small_result, has_small_kinds, has_small_body, is_small_function, is_small_alone, is_small}
 
 both : (x y : Bool) → x ≡ true → y ≡ true → (x && y) ≡ true
 both true true a b = refl

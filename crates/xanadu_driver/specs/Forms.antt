@@ -1,5 +1,5 @@
 -- Which cores are small, as a test that computes. It holds exactly of those that `IsSmall` of the tree's crate describes.
-use Rattle.std.specs.Prelude.{ℕ, suc, ◌+◌, pos, ℤ, Bool, true, false, ◌&&◌, ◌==◌, nat_lt, nat_le, List, [], ◌∷◌, length, codes, Option, Some, None}
+use Rattle.std.specs.Prelude.{ℕ, ◌+◌, pos, ℤ, Bool, true, false, ◌&&◌, ◌==◌, nat_lt, nat_le, List, [], ◌∷◌, length, codes, Option, None}
 use Rattle.std.specs.Option.{option_map_or}
 use Rattle.std.specs.Ordering.{int_eq}
 use Rattle.std.specs.Str.{bytes_eq}
@@ -11,7 +11,6 @@ use Rattle.xanadu_tree.specs.declared.types.CoreTy.{CoreTy}
 use Rattle.xanadu_tree.specs.declared.types.CoreTy.TheVariants as ty
 use Rattle.xanadu_tree.specs.declared.types.Kind.{Kind}
 use Rattle.xanadu_tree.specs.declared.types.Kind.TheVariants as kind
-use Rattle.xanadu_tree.specs.declared.types.Packing.{Packing}
 use Rattle.xanadu_tree.specs.declared.types.Quant.{Quant}
 use Rattle.xanadu_tree.specs.Plain as plain
 use Rattle.xanadu_tree.specs.Small.{links_len}
