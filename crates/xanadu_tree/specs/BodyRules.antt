@@ -104,7 +104,7 @@ IsTarget before x after = (IsAmong before.visible x × (after ≡ before)) ⊎ (
 pub record IsSplit (set : Setting) (before : Point) (xs : List ℕ) (parts : List CoreTy) (after : Point) : Type 0 where
   pub next : xs ≡ range_with_len before.variables (length parts)
   pub kinds : AllZip (λ x part. slice_get set.kinds x ≡ Some (kind_of part)) xs parts
-  pub after : after ≡ declaring (length parts) before
+  pub behind : after ≡ declaring (length parts) before
 
 -- a `return` has a value exactly where the function has one
 abbrev pub IsReturn : Setting → (visible : List ℕ) → Option plain.Expr → Type 0

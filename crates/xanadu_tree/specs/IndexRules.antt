@@ -46,7 +46,7 @@ SomeTells variable (t ∷ ts) = Tells variable t ⊎ SomeTells variable ts
 
 -- the variables of a quantifier over these types, which may name those of the quantifiers around it too
 pub record IsQuantified (around : List Stretch) (own : Stretch) (rows : List Linear) (types : List CoreTy) : Type 0 where
-  pub rows : AllByRecursion (IsForm (own ∷ around)) rows
+  pub forms : AllByRecursion (IsForm (own ∷ around)) rows
   -- each of its variables is alone an index of one of the types
   pub told : (variable : ℕ) → IsWithin own variable → SomeTells variable types
 
