@@ -1,19 +1,17 @@
 -- Cores that keep the rules of a core, and cores that break one each.
-use Rattle.std.proofs.Common.{◌≡◌, ◌≢◌, ℕ, ◌+◌, pos, List, [], ◌∷◌, Some, None, true, refl, arith, inl, inr}
+use Rattle.std.proofs.Common.{◌≡◌, pos, [], ◌∷◌, Some, true, rules, arith, inl, inr}
 use Rattle.std.specs.Prelude.{codes}
-use Rattle.std.specs.List.{AllByRecursion}
 use Rattle.xanadu_tree.specs.declared.expr.Op.TheVariants as op
-use Rattle.xanadu_tree.specs.declared.types.Kind.TheVariants as kind
 use Rattle.xanadu_tree.specs.KindRules.{HasKind}
 use Rattle.xanadu_tree.specs.BodyRules.{AreStatements}
-use Rattle.xanadu_tree.specs.Shaped.{Shaped, IsFunction}
+use Rattle.xanadu_tree.specs.Shaped.{Shaped}
 use Rattle.xanadu_tree.specs.Small.{number_program, number_function}
 use Rattle.xanadu_tree.specs.Plain as plain
 use Rattle.xanadu_tree.proofs.ShapedSums.{sum_is_shaped}
 
 -- `return a + 3;` of two numbers
 sum_example : Shaped (number_program 2 (plain.Chain (plain.Var 0) (plain.ALink op.Add (plain.Int (pos 3)) 25 plain.NoLink)) 20 0)
-sum_example = sum_is_shaped 2 _ 20 0 (omega arith, (tt, refl, tt), omega arith, omega arith)
+sum_example = sum_is_shaped 2 _ 20 0 (omega arith, (tt, search rules, tt), omega arith, omega arith)
 
 -- a variable that is not there
 no_such_variable : Shaped (number_program 1 (plain.Var 1) 20 0) → ⊥
@@ -34,7 +32,7 @@ chain_of_one shaped = shaped.functions.0.body.1.0.1.2
 abbrev with_body : plain.Stmts → plain.Program
 with_body body = record {
   types = [];
-  funs = (record number_function (codes "main") 0 (plain.Int (pos 3)) 20 0 { body = body }) ∷ [];
+  funs = (record (number_function (codes "main") 0 (plain.Int (pos 3)) 20 0) { body = body }) ∷ [];
   main = 0;
 }
 
@@ -44,5 +42,5 @@ unfolding HasKind AreStatements
 behind_return shaped = shaped.functions.0.body.2
 
 -- a body that completes
-end_reached : Shaped (with_body (plain.AStmt (plain.Print (plain.Int (pos 3))) plain.NoStmt)) → ⊥
+pub end_reached : Shaped (with_body (plain.AStmt (plain.Print (plain.Int (pos 3))) plain.NoStmt)) → ⊥
 end_reached shaped = absurd (cc shaped.functions.0.returns)
