@@ -1,0 +1,11 @@
+pub mod Code
+pub mod Expressions
+pub mod Faults
+pub mod Headers
+pub mod Kinds
+pub mod Linears
+pub mod Names
+pub mod Quantifiers
+pub mod Shape
+pub mod Sites
+pub mod Statements

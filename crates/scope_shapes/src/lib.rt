@@ -1,0 +1,6 @@
+//! The shapes of a source: from its tree to its core, or the first fault of scope or of simple kind.
+#![tactic(auto)]
+
+mod error;
+
+pub use error::{ShapeError, ShapeKind};
