@@ -2,5 +2,7 @@
 #![tactic(auto)]
 
 mod error;
+mod laws;
 
 pub use error::{ShapeError, ShapeKind};
+pub use laws::shapes_are_shaped;

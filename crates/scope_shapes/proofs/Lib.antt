@@ -1,0 +1,2 @@
+pub mod ShapedForms
+pub mod ShapedLists
