@@ -1,2 +1,4 @@
 pub mod ShapedForms
 pub mod ShapedLists
+pub mod ShapedQuantifiers
+pub mod ShapedTypes
