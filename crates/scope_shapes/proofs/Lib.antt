@@ -1,4 +1,5 @@
 pub mod ShapedForms
+pub mod ShapedHeaders
 pub mod ShapedLists
 pub mod ShapedQuantifiers
 pub mod ShapedTypes

@@ -1,6 +1,6 @@
 -- Declared types that are read keep the rules of a core.
-use Rattle.std.proofs.Common.{◌≡◌, sym, ap, subst, ℕ, zero, suc, ◌+◌, ◌-◌, ◌<◌, ◌≤◌, Bool, true, false, List, [], ◌∷◌, ◌++◌, length, get_or, Option, Some, None, Ok, refl, arith, ◌∙◌, ◌⊎◌, inl, inr}
-use Rattle.std.specs.Prelude.{cond, slice_get, if◌then◌else◌, ◌||◌}
+use Rattle.std.proofs.Common.{◌≡◌, sym, ap, subst, ℕ, zero, suc, ◌+◌, ◌-◌, ◌<◌, ◌≤◌, Bool, true, false, List, [], ◌∷◌, ◌++◌, length, get_or, Option, Some, None, Ok, refl, arith, ◌∙◌, ◌⊎◌, inl, inr, append_assoc, append-nil}
+use Rattle.std.specs.Prelude.{cond, is_some, slice_get, if◌then◌else◌, ◌||◌}
 use Rattle.std.specs.List.{AllByRecursion, AllZip, list_any}
 use Rattle.std.specs.Option.{option_and_then}
 use Rattle.std.specs.BTreeMap.{is_at}
@@ -10,8 +10,10 @@ use Rattle.std.specs.Ordering.{nat_cmp, is_eq, MatchOrdering}
 use Rattle.std.proofs.lemmas.Cmp.{ranked}
 use Rattle.xanadu_tree.specs.declared.types.CoreTy.{CoreTy}
 use Rattle.xanadu_tree.specs.declared.types.Kind.{Kind}
+use Rattle.xanadu_tree.specs.declared.types.Kind.TheVariants as kind
 use Rattle.xanadu_tree.specs.declared.types.Packing.{Packing}
 use Rattle.xanadu_tree.specs.declared.types.Quant.{Quant}
+use Rattle.xanadu_tree.specs.declared.tree.declaration.Identifier.{Identifier}
 use Rattle.xanadu_tree.specs.declared.tree.index.Binder.{Binder}
 use Rattle.xanadu_tree.specs.IndexRules.{Stretch, IsWithin, IsQuantified, SomeTells, stretch_of}
 use Rattle.xanadu_tree.specs.KindRules.{cell_kind, tuple_type as tuple_packing, held_kind, if_tuple, first_kind}
@@ -20,16 +22,16 @@ use Rattle.xanadu_tree.specs.Shaped.{HasParts, IsPacking}
 use Rattle.xanadu_tree.specs.PlainTree as plain
 use Rattle.xanadu_tree.specs.Written.{IsTypeBody, IsTypeDeclaration, AreDeclarations, IsSome}
 use Rattle.scope_shapes.specs.Faults.{Check, fault, ◌>>=◌}
-use Rattle.scope_shapes.specs.declared.error.ShapeKind.TheVariants.{NoIndex}
-use Rattle.scope_shapes.specs.Names.{Scope, Types, added}
+use Rattle.scope_shapes.specs.declared.error.ShapeKind.TheVariants.{NoIndex, NamedTwice}
+use Rattle.scope_shapes.specs.Names.{Scope, Table, Types, added, place}
 use Rattle.scope_shapes.specs.Quantifiers.{Frame, empty_frame, opened, type_in, types_in, unindexed, quant, closed}
 use Rattle.scope_shapes.specs.Headers.{is_tuple, part_types, type_names, packing, packings}
 use Rattle.scope_shapes.proofs.ShapedQuantifiers.{own, Wider, Bound, Frames, Typed, Fits, written, opened_opens, type_is}
-use Rattle.scope_shapes.proofs.ShapedLists.{Then, then_ok, ok_same, all_with, length_both}
+use Rattle.scope_shapes.proofs.ShapedLists.{Then, then_ok, ok_same, unless_ok, all_with, length_both}
 
 -- ---- types in order
 
-same_wider : (frame : Frame) → Wider frame frame
+pub same_wider : (frame : Frame) → Wider frame frame
 same_wider frame = record { first = refl; next = omega arith }
 
 pub wider_through : (a b c : Frame) → Wider a b → Wider b c → Wider a c
@@ -110,7 +112,7 @@ unless_is : (o : Option ℕ) (q y : Quant) → unless_unindexed o q ≡ Ok y →
 unless_is None q y e = (refl, ok_same q y e)
 unless_is (Some at) q y e = absurd (cc)
 
-closed_is : (q : Option plain.Quantifier) (frame : Frame) (y : Quant) → closed q frame ≡ Ok y
+pub closed_is : (q : Option plain.Quantifier) (frame : Frame) (y : Quant) → closed q frame ≡ Ok y
     → (quant frame ≡ y) × ((v : ℕ) → frame.first ≤ v → v < frame.first + written q → list_any (is_at (nat_cmp v)) frame.indices ≡ true)
 unfolding closed
 closed_is None frame y e = (ok_same (quant frame) y e, λ v from below. absurd (omega (arith, from, below)))
@@ -206,3 +208,91 @@ flags (plain.OfFunction d ∷ ds) = flags ds
 record Named (types : Types) (ds : List plain.Declaration) (y : Types) : Type 0 where
   tuples : y.tuples ≡ types.tuples ++ flags ds
   count : length types.names ≡ length types.tuples → length y.names ≡ length y.tuples
+
+added_count : (name : Identifier) (table y : Table) → added name table ≡ Ok y → length y ≡ length table + 1
+unfolding added
+added_count name table y e =
+    let u = unless_ok _ NamedTwice name.at (Ok (table ++ (name.name ∷ []))) y e in
+    let h : length (table ++ (name.name ∷ [])) ≡ length y = ap length (ok_same (table ++ (name.name ∷ [])) y u.1) in
+    omega (arith, h, length_both table (name.name ∷ []))
+
+names_named : (ds : List plain.Declaration) (types y : Types) → type_names ds types ≡ Ok y → Named types ds y
+unfolding type_names
+names_named [] types y e = subst (Named types []) (ok_same types y e) (record { tuples = sym (append-nil types.tuples); count = λ h. h })
+names_named (plain.OfType d ∷ ds) types y e =
+    let s = then_ok (added d.name types.names) (λ names. type_names ds (record { names = names; tuples = types.tuples ++ (is_tuple d.body ∷ []) })) y e in
+    let more = names_named ds (record { names = s.value; tuples = types.tuples ++ (is_tuple d.body ∷ []) }) y s.second in
+    record {
+      tuples = more.tuples ∙ append_assoc types.tuples (is_tuple d.body ∷ []) (flags ds);
+      count = λ h. more.count (omega (arith, added_count d.name types.names s.value s.first, length_both types.tuples (is_tuple d.body ∷ []), h));
+    }
+names_named (plain.OfFunction d ∷ ds) types y e = let more = names_named ds types y e in record { tuples = more.tuples; count = more.count }
+
+record Flagged (ds : List plain.Declaration) (made y : List Packing) : Type 0 where
+  more : List Packing
+  is : y ≡ made ++ more
+  flags : AllZip HasFlag (flags ds) more
+
+packings_flagged : (types : Types) (ds : List plain.Declaration) (made y : List Packing) → AreDeclarations ds → packings types ds made ≡ Ok y → Flagged ds made y
+unfolding packings
+packings_flagged types [] made y are e = record { more = []; is = sym (ok_same made y e) ∙ sym (append-nil made); flags = tt }
+packings_flagged types (plain.OfType d ∷ ds) made y are e =
+    let s = then_ok (packing types d) (λ one. packings types ds (made ++ (one ∷ []))) y e in
+    let later = packings_flagged types ds (made ++ (s.value ∷ [])) y are.1 s.second in
+    record {
+      more = s.value ∷ later.more;
+      is = later.is ∙ append_assoc made (s.value ∷ []) later.more;
+      flags = (packing_flag types d s.value are.0 s.first, later.flags);
+    }
+packings_flagged types (plain.OfFunction d ∷ ds) made y are e =
+    let later = packings_flagged types ds made y are.1 e in
+    record { more = later.more; is = later.is; flags = later.flags }
+
+-- the declared type of a number
+record Found (bs : List Bool) (ps : List Packing) (n : ℕ) : Type 0 where
+  packing : Packing
+  at : slice_get ps n ≡ Some packing
+  has : HasFlag (get_or bs n false) packing
+
+found_at : (bs : List Bool) (ps : List Packing) (n : ℕ) → AllZip HasFlag bs ps → n < length bs → Found bs ps n
+found_at [] ps n all below = absurd (omega (arith, below))
+found_at (b ∷ bs) [] n all below = absurd all
+found_at (b ∷ bs) (p ∷ ps) zero all below = record { packing = p; at = refl; has = all.0 }
+found_at (b ∷ bs) (p ∷ ps) (suc n) all below = let f = found_at bs ps n all.1 (omega (arith, below)) in record { packing = f.packing; at = f.at; has = f.has }
+
+held_some : (number : ℕ) (p : Packing) → IsSome p.parts → (held : Kind) × (held_kind number p ≡ Some held)
+held_some number p some = by p.tuple p.parts some
+  where
+    by : (tuple : Bool) (parts : List CoreTy) → IsSome parts → (held : Kind) × (cond tuple (Some (kind.Named number)) (first_kind parts) ≡ Some held)
+    by true parts some = (_, refl)
+    by false [] some = absurd some
+    by false (t ∷ ts) some = (_, refl)
+
+fits_by : (types : Types) (P : List Packing) → length types.names ≡ length types.tuples → AllZip HasFlag types.tuples P → Fits types P
+fits_by types P count all = record { cells = cells; tuples = tuples }
+  where
+    cells : (n : ℕ) → n < length types.names → (held : Kind) × (cell_kind P (suc (suc n)) ≡ Some held)
+    cells n below =
+        let f = found_at types.tuples P n all (omega (arith, count, below)) in
+        let h = held_some (suc (suc n)) f.packing f.has.1 in
+        (h.0, ap (option_and_then (held_kind (suc (suc n)))) f.at ∙ h.1)
+    tuples : (n : ℕ) → n < length types.names → get_or types.tuples n false ≡ true → (packing : Packing) × (tuple_packing P (suc (suc n)) ≡ Some packing)
+    tuples n below flag =
+        let f = found_at types.tuples P n all (omega (arith, count, below)) in
+        (f.packing, ap (option_and_then if_tuple) f.at ∙ ap (λ b. cond b (Some f.packing) None) (f.has.0 ∙ flag))
+
+pub types_fit : (ds : List plain.Declaration) (types : Types) (P : List Packing) → AreDeclarations ds → type_names ds (record { names = []; tuples = [] }) ≡ Ok types
+    → packings types ds [] ≡ Ok P → Fits types P
+types_fit ds types P are named made =
+    let n = names_named ds (record { names = []; tuples = [] }) types named in
+    let f = packings_flagged types ds [] P are made in
+    fits_by types P (n.count refl) (subst (λ bs. AllZip HasFlag bs P) (sym n.tuples) (subst (AllZip HasFlag (flags ds)) (sym f.is) f.flags))
+
+pub packings_are : (Q : List Packing) (types : Types) (ds : List plain.Declaration) (made y : List Packing) → Fits types Q → AreDeclarations ds → AllByRecursion (IsPacking Q) made
+    → packings types ds made ≡ Ok y → AllByRecursion (IsPacking Q) y
+unfolding packings
+packings_are Q types [] made y fits are all e = subst (AllByRecursion (IsPacking Q)) (ok_same made y e) all
+packings_are Q types (plain.OfType d ∷ ds) made y fits are all e =
+    let s = then_ok (packing types d) (λ one. packings types ds (made ++ (one ∷ []))) y e in
+    packings_are Q types ds (made ++ (s.value ∷ [])) y fits are.1 (all_with (IsPacking Q) made s.value all (packing_is Q types d s.value fits are.0 s.first)) s.second
+packings_are Q types (plain.OfFunction d ∷ ds) made y fits are all e = packings_are Q types ds made y fits are.1 all e
