@@ -1,5 +1,6 @@
 pub mod ShapedForms
 pub mod ShapedHeaders
+pub mod ShapedKinds
 pub mod ShapedLists
 pub mod ShapedQuantifiers
 pub mod ShapedTypes
