@@ -1,3 +1,4 @@
+pub mod ShapedExpressions
 pub mod ShapedForms
 pub mod ShapedHeaders
 pub mod ShapedKinds

@@ -1,6 +1,6 @@
 -- Types that are read under a quantifier are types, and the quantifier's variables are told by them.
 use Rattle.std.proofs.Common.{◌≡◌, ◌≢◌, sym, ap, subst, ℕ, zero, suc, ℤ, pos, ◌+◌, ◌-◌, ◌<◌, ◌≤◌, Bool, true, false, List, [], ◌∷◌, ◌++◌, length, map, get_or, Option, Some, None, Ok, refl, arith, ◌∙◌, ◌⊎◌, inl, inr}
-use Rattle.std.specs.Prelude.{cond, ◌&&◌, ◌||◌, if◌then◌else◌, position, bytes_eq}
+use Rattle.std.specs.Prelude.{cond, ◌&&◌, ◌||◌, if◌then◌else◌, position, bytes_eq, unwrap_or, slice_get}
 use Rattle.std.specs.List.{AllByRecursion, list_any}
 use Rattle.std.specs.BTreeMap.{is_at}
 use Rattle.std.specs.BTreeSet.{insert_key}
@@ -8,7 +8,7 @@ use Rattle.std.specs.declared.cmp.Ordering.{Ordering}
 use Rattle.std.specs.declared.cmp.Ordering.TheVariants.{Less, Equal, Greater}
 use Rattle.std.specs.Ordering.{nat_cmp, int_eq, is_eq, match_ordering, MatchOrdering}
 use Rattle.std.proofs.lemmas.Cmp.{ranked}
-use Rattle.std.proofs.lemmas.Option.{same_Some}
+use Rattle.std.proofs.lemmas.Option.{same_Some, unwrap_or-slice_get}
 use Rattle.std.proofs.lemmas.Bool.Decides.{Decides-int_eq}
 use Rattle.std.specs.Bool.{Decides}
 use Rattle.std.proofs.lemmas.List.Quantifiers.{position-Some}
@@ -201,9 +201,11 @@ unfolding tuple_type
 tuple_number_is types P name number fits e =
     let s = then_ok (or_unknown name.at (type_number name.name types)) _ number e in
     let n = type_number_is name.name types s.value (known_name name.at _ s.value s.first) in
-    let w = where_ok (get_or types.tuples (s.value - 2) false) _ _ (Ok s.value) number s.second in
+    let w = where_ok (unwrap_or (slice_get types.tuples (s.value - 2)) false) _ _ (Ok s.value) number s.second in
     let at : s.value - 2 ≡ n.place = omega (arith, n.is) in
-    let it = fits.tuples n.place n.within (sym (ap (λ k. get_or types.tuples k false) at) ∙ w.0) in
+    let flag : get_or types.tuples n.place false ≡ true =
+          sym (unwrap_or-slice_get types.tuples n.place false) ∙ sym (ap (λ k. unwrap_or (slice_get types.tuples k) false) at) ∙ w.0 in
+    let it = fits.tuples n.place n.within flag in
     (it.0, ap (tuple_packing P) (sym (ok_same s.value number w.1) ∙ n.is) ∙ it.1)
 
 -- ---- types under a quantifier
