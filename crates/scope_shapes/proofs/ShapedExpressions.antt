@@ -59,13 +59,13 @@ pub record Has (set : Setting) (visible : List ℕ) (typed : Typed) : Type 0 whe
 
 -- ---- lists
 
-links_with : (set : Setting) (visible : List ℕ) (links : List Link) (op : Op) (e : core.Expr) (at : ℕ) → AreNumbers set visible (to_links links) → HasKind set visible e kind.Int
+pub links_with : (set : Setting) (visible : List ℕ) (links : List Link) (op : Op) (e : core.Expr) (at : ℕ) → AreNumbers set visible (to_links links) → HasKind set visible e kind.Int
     → AreNumbers set visible (to_links (links ++ ((op, e, at) ∷ [])))
 unfolding HasKind
 links_with set visible [] op e at are has = (has, tt)
 links_with set visible (l ∷ ls) op e at are has = (are.0, links_with set visible ls op e at are.1 has)
 
-exprs_with : (set : Setting) (visible : List ℕ) (args : List core.Expr) (ks : List Kind) (e : core.Expr) (k : Kind) → HaveKinds set visible (to_exprs args) ks → HasKind set visible e k
+pub exprs_with : (set : Setting) (visible : List ℕ) (args : List core.Expr) (ks : List Kind) (e : core.Expr) (k : Kind) → HaveKinds set visible (to_exprs args) ks → HasKind set visible e k
     → HaveKinds set visible (to_exprs (args ++ (e ∷ []))) (ks ++ (k ∷ []))
 unfolding HasKind
 exprs_with set visible [] [] e k have has = (has, tt)
@@ -73,7 +73,7 @@ exprs_with set visible [] (j ∷ ks) e k have has = absurd have
 exprs_with set visible (a ∷ args) [] e k have has = absurd have
 exprs_with set visible (a ∷ args) (j ∷ ks) e k have has = (have.0, exprs_with set visible args ks e k have.1 has)
 
-some_with : {A : Type 0} (xs : List A) (x : A) → IsSome (xs ++ (x ∷ []))
+pub some_with : {A : Type 0} (xs : List A) (x : A) → IsSome (xs ++ (x ∷ []))
 some_with [] x = tt
 some_with (y ∷ ys) x = tt
 
@@ -84,7 +84,7 @@ some_link (l ∷ ls) some = tt
 -- ---- arguments
 
 -- the kinds that are asked of these arguments, from a place on
-abbrev kinds_of : plain.Expressions → List CoreTy → ℕ → List Kind
+abbrev pub kinds_of : plain.Expressions → List CoreTy → ℕ → List Kind
 kinds_of plain.NoExpression types place = []
 kinds_of (plain.AnExpression e es) types place = kind_at types place ∷ kinds_of es types (place + 1)
 
@@ -93,7 +93,7 @@ unfolding kind_at
 at_place [] t back = refl
 at_place (u ∷ front) t back = at_place front t back
 
-kinds_are : (given : plain.Expressions) (front back types : List CoreTy) (place : ℕ) → types ≡ front ++ back → place ≡ length front → count given ≡ length back
+pub kinds_are : (given : plain.Expressions) (front back types : List CoreTy) (place : ℕ) → types ≡ front ++ back → place ≡ length front → count given ≡ length back
     → kinds_of given types place ≡ map kind_of back
 kinds_are plain.NoExpression front [] types place is at n = refl
 kinds_are plain.NoExpression front (t ∷ back) types place is at n = absurd (omega (arith, n))
@@ -153,7 +153,7 @@ variable_is globals locals kinds given visible name y sees e =
 
 -- ---- chains
 
-chain_is : (set : Setting) (visible : List ℕ) (some : Bool) (at : ℕ) (first : Typed) (rest : Check (List Link)) (y : Typed) → Has set visible first
+pub chain_is : (set : Setting) (visible : List ℕ) (some : Bool) (at : ℕ) (first : Typed) (rest : Check (List Link)) (y : Typed) → Has set visible first
     → ((links : List Link) → rest ≡ Ok links → some ≡ true → AreNumbers set visible (to_links links) × IsSome links) → chain some at first rest ≡ Ok y → Has set visible y
 unfolding HasKind
 chain_is set visible false at first rest y has links e = subst (Has set visible) (ok_same first y e) has
