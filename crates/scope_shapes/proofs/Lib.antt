@@ -5,4 +5,5 @@ pub mod ShapedKinds
 pub mod ShapedLists
 pub mod ShapedOperands
 pub mod ShapedQuantifiers
+pub mod ShapedTests
 pub mod ShapedTypes
