@@ -4,6 +4,7 @@ pub mod ShapedHeaders
 pub mod ShapedKinds
 pub mod ShapedLists
 pub mod ShapedOperands
+pub mod ShapedPlaces
 pub mod ShapedQuantifiers
 pub mod ShapedTests
 pub mod ShapedTypes

@@ -88,7 +88,7 @@ abbrev pub kinds_of : plain.Expressions → List CoreTy → ℕ → List Kind
 kinds_of plain.NoExpression types place = []
 kinds_of (plain.AnExpression e es) types place = kind_at types place ∷ kinds_of es types (place + 1)
 
-at_place : (front : List CoreTy) (t : CoreTy) (back : List CoreTy) → kind_at (front ++ (t ∷ back)) (length front) ≡ kind_of t
+pub at_place : (front : List CoreTy) (t : CoreTy) (back : List CoreTy) → kind_at (front ++ (t ∷ back)) (length front) ≡ kind_of t
 unfolding kind_at
 at_place [] t back = refl
 at_place (u ∷ front) t back = at_place front t back
