@@ -1,3 +1,4 @@
+pub mod ShapedClauses
 pub mod ShapedExpressions
 pub mod ShapedForms
 pub mod ShapedHeaders
@@ -6,5 +7,6 @@ pub mod ShapedLists
 pub mod ShapedOperands
 pub mod ShapedPlaces
 pub mod ShapedQuantifiers
+pub mod ShapedStatements
 pub mod ShapedTests
 pub mod ShapedTypes

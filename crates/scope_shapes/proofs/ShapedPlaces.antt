@@ -57,7 +57,7 @@ get_below [] n below = absurd (omega (arith, below))
 get_below (k ∷ ks) zero below = (k, refl)
 get_below (k ∷ ks) (suc n) below = get_below ks n (omega (arith, below))
 
-seen_one : (P : List Packing) (locals : Locals) (kinds : List Kind) (visible : List ℕ) (x : ℕ) → AllByRecursion (IsGood P) locals.kinds → Begins locals.kinds kinds
+pub seen_one : (P : List Packing) (locals : Locals) (kinds : List Kind) (visible : List ℕ) (x : ℕ) → AllByRecursion (IsGood P) locals.kinds → Begins locals.kinds kinds
     → IsVariable visible locals.kinds x → Seen P locals kinds visible x
 seen_one P locals kinds visible x good begins v =
     let k = get_below locals.kinds x v.below in
