@@ -1,3 +1,4 @@
+pub mod ShapedBodies
 pub mod ShapedClauses
 pub mod ShapedExpressions
 pub mod ShapedForms
