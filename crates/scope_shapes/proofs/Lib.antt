@@ -5,8 +5,10 @@ pub mod ShapedForms
 pub mod ShapedHeaders
 pub mod ShapedKinds
 pub mod ShapedLists
+pub mod ShapedNames
 pub mod ShapedOperands
 pub mod ShapedPlaces
+pub mod ShapedPrograms
 pub mod ShapedQuantifiers
 pub mod ShapedStatements
 pub mod ShapedTests
