@@ -1,6 +1,8 @@
 pub mod Code
 pub mod Expressions
 pub mod Faults
+pub mod FormOf
+pub mod FrameOf
 pub mod Headers
 pub mod Kinds
 pub mod Linears

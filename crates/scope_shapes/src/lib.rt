@@ -2,5 +2,10 @@
 #![tactic(auto)]
 
 mod error;
+mod form;
+mod frame;
+mod index;
+mod scope;
+mod table;
 
 pub use error::{ShapeError, ShapeKind};
