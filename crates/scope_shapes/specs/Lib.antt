@@ -4,6 +4,7 @@ pub mod Faults
 pub mod FormOf
 pub mod FrameOf
 pub mod Headers
+pub mod HeadersOf
 pub mod Kinds
 pub mod Linears
 pub mod Names
@@ -11,3 +12,4 @@ pub mod Quantifiers
 pub mod Shape
 pub mod Sites
 pub mod Statements
+pub mod TypesOf

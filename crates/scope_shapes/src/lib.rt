@@ -4,8 +4,11 @@
 mod error;
 mod form;
 mod frame;
+mod headers;
 mod index;
+mod kinds;
 mod scope;
 mod table;
+mod types;
 
 pub use error::{ShapeError, ShapeKind};
