@@ -1,1 +1,4 @@
 pub mod Integers
+pub mod Parts
+pub mod Scopes
+pub mod Tables

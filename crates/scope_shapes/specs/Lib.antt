@@ -1,3 +1,4 @@
+pub mod BodiesOf
 pub mod Code
 pub mod Expressions
 pub mod Faults
@@ -8,8 +9,11 @@ pub mod HeadersOf
 pub mod Kinds
 pub mod Linears
 pub mod Names
+pub mod NodesOf
 pub mod Quantifiers
+pub mod ScopeOf
 pub mod Shape
 pub mod Sites
+pub mod SitesOf
 pub mod Statements
 pub mod TypesOf

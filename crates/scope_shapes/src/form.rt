@@ -1,6 +1,6 @@
 //! Linear forms under way.
 
-ghost use Rattle.std.specs.Prelude.{◌≡◌, OnOk, IfOk, cond, pos, negsuc};
+ghost use Rattle.std.specs.Prelude.{◌≡◌, OnOk, IfOk, cond, pos, negsuc, map, filter};
 ghost use Rattle.scope_shapes.specs.Code.{Gives};
 ghost use Rattle.scope_shapes.specs.FormOf.{form_of};
 ghost use Rattle.scope_shapes.specs.Linears as spec;
@@ -54,10 +54,9 @@ impl Form {
         Ok(())
     }
 
-    /// The form, without the variables that cancel.
-    #[tactic(auto, using(crate::proofs::Integers::integers), unfolding(crate::specs::Linears::linear))]
-    pub fn linear(&self, alloc: Global) -> Result<Linear, Memory>
-        ensures { IfOk result (λ l. l ≡ spec.linear (form_of self.now)) }
+    /// The terms, without those that cancel.
+    fn terms(&self, alloc: Global) -> Result<Vec<(i128, u32)>, Memory>
+        ensures { IfOk result (λ x. x.items ≡ map spec.term_of (filter spec.is_term (form_of self.now).coefficients)) }
     {
         let terms = self
             .coefficients
@@ -65,8 +64,16 @@ impl Form {
             .filter(|entry| *entry.1 != 0)
             .map(|entry| (*entry.1, *entry.0))
             .collect(alloc)?;
+        Ok(terms)
+    }
+
+    /// The form, without the variables that cancel.
+    #[tactic(auto, using(crate::proofs::Integers::integers), unfolding(crate::specs::Linears::linear))]
+    pub fn linear(&self, alloc: Global) -> Result<Linear, Memory>
+        ensures { IfOk result (λ l. l ≡ spec.linear (form_of self.now)) }
+    {
         Ok(Linear {
-            terms: Seq::from_vec(terms),
+            terms: Seq::from_vec(self.terms(alloc)?),
             constant: self.constant,
         })
     }

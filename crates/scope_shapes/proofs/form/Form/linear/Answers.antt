@@ -1,4 +1,4 @@
-use Rattle.std.proofs.Common.{◌≡◌, rules, ap, FitsSigned, sym}
+use Rattle.std.proofs.Common.{◌≡◌, rules, FitsSigned}
 use Rattle.std.specs.Int.{w128}
 use Rattle.std.proofs.lemmas.Int.{to_z-of_z}
 use Rattle.scope_shapes.specs.Linears.{linear}
@@ -7,5 +7,5 @@ use Rattle.scope_shapes.proofs.form.Form.linear.Goals as goal
 pub returns : goal.returns
 unfolding linear
 returns c =
-    let runs = c.from_vec.ensures in
-    ?
+    let fits : FitsSigned w128 c.args.self.now.constant = search rules in
+    rw (to_z-of_z w128 c.args.self.now.constant fits) (search rules)
