@@ -1,3 +1,6 @@
+pub mod Integers
+pub mod Parts
+pub mod Scopes
 pub mod ShapedBodies
 pub mod ShapedClauses
 pub mod ShapedExpressions
@@ -13,3 +16,4 @@ pub mod ShapedQuantifiers
 pub mod ShapedStatements
 pub mod ShapedTests
 pub mod ShapedTypes
+pub mod Tables

@@ -1,6 +1,7 @@
 -- Expressions and tests.
 use Rattle.std.specs.Prelude.{ℕ, ◌+◌, Bool as Truth, true, false, cond, List, [], ◌∷◌, ◌++◌, Ok}
 use Rattle.xanadu_tree.specs.declared.expr.Op.{Op}
+use Rattle.xanadu_tree.specs.declared.expr.Rel.{Rel}
 use Rattle.xanadu_tree.specs.declared.types.CoreTy.{CoreTy}
 use Rattle.xanadu_tree.specs.declared.types.Kind.{Kind}
 use Rattle.xanadu_tree.specs.declared.types.Kind.TheVariants as kind
@@ -59,6 +60,24 @@ without_and (plain.ANegation negation at others) e = fault OutsideTest at
 abbrev pub number : core.Expr → Typed
 number e = record { expr = e; kind = kind.Int }
 
+abbrev pub truth : Truth → Typed
+truth value = record { expr = core.Bool value; kind = kind.Bool }
+
+abbrev pub compare : Rel → (left right : core.Expr) → Typed
+compare rel left right = record { expr = core.Compare rel left right; kind = kind.Bool }
+
+abbrev pub cell : (array index : core.Expr) (at : ℕ) → Kind → Typed
+cell array index at k = record { expr = core.Index array index at; kind = k }
+
+abbrev pub call : (fun : ℕ) (args : List core.Expr) (at : ℕ) → Kind → Typed
+call fun args at k = record { expr = core.Call fun (to_exprs args) at; kind = k }
+
+abbrev pub tuple : (ty : ℕ) (args : List core.Expr) (at : ℕ) → Typed
+tuple ty args at = record { expr = core.Make ty (to_exprs args) at; kind = kind.Named ty }
+
+abbrev pub new_array : (ty : ℕ) (len fill : core.Expr) (at : ℕ) → Typed
+new_array ty len fill at = record { expr = core.New ty len fill at; kind = kind.Array ty }
+
 -- the operators with their right operands, in order
 abbrev pub Link : Type 0
 Link = Op × core.Expr × ℕ
@@ -70,6 +89,26 @@ chain true at first rest = do
   a ← asked kind.Int at first
   links ← rest
   Ok (number (core.Chain a (to_links links)))
+
+-- an expression of kind bool, which stands at this place
+abbrev pub leaf : ℕ → Check Typed → Check core.Test
+leaf at typed = do
+  e ← typed
+  a ← asked kind.Bool at e
+  Ok (core.Leaf a)
+
+-- the first part alone, or all parts, where there are more
+abbrev pub any_test : Truth → core.Test → Check (List core.Test) → Check core.Test
+any_test false first all = Ok first
+any_test true first all = do
+  parts ← all
+  Ok (core.Any (to_tests parts))
+
+abbrev pub all_test : Truth → core.Test → Check (List core.Test) → Check core.Test
+all_test false first all = Ok first
+all_test true first all = do
+  parts ← all
+  Ok (core.All (to_tests parts))
 
 -- ---- expressions outside tests
 
@@ -101,7 +140,7 @@ module _ (globals : Globals) (locals : Locals) where
       a ← asked kind.Int at left
       e ← sum right
       b ← asked kind.Int (sum_at right) e
-      Ok (record { expr = core.Compare rel a b; kind = kind.Bool })
+      Ok (compare rel a b)
 
     pub sum : plain.Sum → Check Typed
     sum (plain.SumOf first rest at) = do
@@ -147,31 +186,31 @@ module _ (globals : Globals) (locals : Locals) where
       element ← asked_array at array.kind
       e ← expression index
       i ← asked kind.Int (expression_at index) e
-      indexed others at (record { expr = core.Index array.expr i bracket_at; kind = element_kind globals.packings element })
+      indexed others at (cell array.expr i bracket_at (element_kind globals.packings element))
 
     pub primary : plain.Primary → Check Typed
     primary (plain.Number n at) = Ok (number (core.Int n))
-    primary (plain.Boolean truth at) = Ok (record { expr = core.Bool truth; kind = kind.Bool })
+    primary (plain.Boolean value at) = Ok (truth value)
     primary (plain.Variable name) = variable locals name
     primary (plain.Call f given) = do
       (callee, h) ← called globals f (count given)
       args ← arguments given h.params 0 []
-      Ok (record { expr = core.Call callee (to_exprs args) f.at; kind = h.given.kind })
+      Ok (call callee args f.at h.given.kind)
     primary (plain.Make name given) = do
       ty ← made globals name (count given)
       args ← arguments given (parts_of globals.packings ty) 0 []
-      Ok (record { expr = core.Make ty (to_exprs args) name.at; kind = kind.Named ty })
+      Ok (tuple ty args name.at)
     primary (plain.Length array at) = do
       e ← expression array
       element ← asked_array (expression_at array) e.kind
       Ok (number (core.Len e.expr))
-    primary (plain.New cell size fill at) = do
-      ty ← element_number globals.types cell
+    primary (plain.New element size fill at) = do
+      ty ← element_number globals.types element
       e ← expression size
       len ← asked kind.Int (expression_at size) e
       x ← expression fill
       value ← asked (element_kind globals.packings ty) (expression_at fill) x
-      Ok (record { expr = core.New ty len value at; kind = kind.Array ty })
+      Ok (new_array ty len value at)
     primary (plain.Group e at) = expression e
 
     -- arguments from a place on, of the kinds of these types, after those that were read
@@ -183,26 +222,6 @@ module _ (globals : Globals) (locals : Locals) where
       arguments others types (place + 1) (args ++ (a ∷ []))
 
   -- ---- tests
-
-  -- an expression of kind bool, which stands at this place
-  abbrev leaf : ℕ → Check Typed → Check core.Test
-  leaf at typed = do
-    e ← typed
-    a ← asked kind.Bool at e
-    Ok (core.Leaf a)
-
-  -- the first part alone, or all parts, where there are more
-  abbrev any_test : Truth → core.Test → Check (List core.Test) → Check core.Test
-  any_test false first all = Ok first
-  any_test true first all = do
-    parts ← all
-    Ok (core.Any (to_tests parts))
-
-  abbrev all_test : Truth → core.Test → Check (List core.Test) → Check core.Test
-  all_test false first all = Ok first
-  all_test true first all = do
-    parts ← all
-    Ok (core.All (to_tests parts))
 
   unfoldable mutual
     pub test : plain.Expression → Check core.Test

@@ -33,10 +33,13 @@ type_names (plain.OfType d ∷ ds) types = do
   type_names ds (record { names = names; tuples = types.tuples ++ (is_tuple d.body ∷ []) })
 type_names (plain.OfFunction d ∷ ds) types = type_names ds types
 
+abbrev pub parts_in : Types → Scope → plain.TypeBody → Frame → Check (List CoreTy × Frame)
+parts_in types scope body frame = types_in types scope (part_types body) [] frame
+
 unfoldable pub packing : Types → plain.TypeDeclaration → Check Packing
 packing types d = do
   (frame, scope) ← opened d.quantifier 0 []
-  (parts, more) ← types_in types scope (part_types d.body) [] frame
+  (parts, more) ← parts_in types scope d.body frame
   q ← closed d.quantifier more
   Ok (record { quant = q; parts = parts; tuple = is_tuple d.body })
 
@@ -97,6 +100,9 @@ header types d = do
 pub record Functions : Type 0 where
   pub names : Table
   pub headers : List Header
+
+abbrev pub no_functions : Functions
+no_functions = record { names = []; headers = [] }
 
 unfoldable pub headers : Types → List plain.Declaration → Functions → Check Functions
 headers types [] functions = Ok functions

@@ -1,5 +1,5 @@
 -- Names and what they name.
-use Rattle.std.specs.Prelude.{ℕ, ◌+◌, ◌-◌, Bool as Truth, true, false, List, [], ◌∷◌, ◌++◌, length, drop, get_or, position, bytes_eq, Option, Some, None, Ok, if◌then◌else◌}
+use Rattle.std.specs.Prelude.{ℕ, ◌+◌, ◌-◌, Bool as Truth, true, false, List, [], ◌∷◌, ◌++◌, length, drop, unwrap_or, slice_get, position, bytes_eq, Option, Some, None, Ok, if◌then◌else◌}
 use Rattle.std.specs.List.{list_any}
 use Rattle.std.specs.Map.{lookup}
 use Rattle.xanadu_tree.specs.declared.tree.declaration.Identifier.{Identifier}
@@ -14,9 +14,9 @@ Scope = List (List ℕ × ℕ)
 unfoldable pub meaning : List ℕ → Scope → Option ℕ
 meaning name scope = lookup (bytes_eq name) scope
 
--- what is known of a scope where a block ends that began with the outer one: the names of the block are gone
-unfoldable pub left : Scope → Scope → Scope
-left outer inner = drop (length inner - length outer) inner
+-- the scope with so many declarations, the latest ones gone
+unfoldable pub first : ℕ → Scope → Scope
+first count scope = drop (length scope - count) scope
 
 -- ---- tables: different names in the order of the text, numbered from 0
 
@@ -40,6 +40,9 @@ pub record Types : Type 0 where
   pub names : Table
   pub tuples : List Truth
 
+abbrev pub no_types : Types
+no_types = record { names = []; tuples = [] }
+
 abbrev from_two : Option ℕ → Option ℕ
 from_two None = None
 from_two (Some n) = Some (n + 2)
@@ -51,4 +54,4 @@ type_number name types = from_two (place name types.names)
 unfoldable pub tuple_type : Types → Identifier → Check ℕ
 tuple_type types name = do
   number ← or_unknown name.at (type_number name.name types)
-  if get_or types.tuples (number - 2) false then Ok number else fault CellType name.at
+  if unwrap_or (slice_get types.tuples (number - 2)) false then Ok number else fault CellType name.at

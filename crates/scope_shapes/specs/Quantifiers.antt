@@ -107,10 +107,13 @@ types_in types scope (t ∷ ts) made frame = do
 
 -- ---- the end of a quantifier
 
+abbrev pub is_index : ℕ → List ℕ → Truth
+is_index variable indices = list_any (is_at (nat_cmp variable)) indices
+
 -- the place of the first binder whose variable, counted from this number, is no index
 unfoldable pub unindexed : List Binder → ℕ → List ℕ → Option ℕ
 unindexed [] number indices = None
-unindexed (b ∷ bs) number indices = if list_any (is_at (nat_cmp number)) indices then unindexed bs (number + 1) indices else Some b.name.at
+unindexed (b ∷ bs) number indices = if is_index number indices then unindexed bs (number + 1) indices else Some b.name.at
 
 abbrev pub quant : Frame → Quant
 quant frame = record { count = frame.next - frame.first; rows = frame.rows }

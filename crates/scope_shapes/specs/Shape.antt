@@ -9,9 +9,9 @@ use Rattle.xanadu_tree.specs.PlainOf.{to_stmts}
 use Rattle.xanadu_tree.specs.PlainTree as plain
 use Rattle.scope_shapes.specs.declared.error.ShapeKind.TheVariants.{Completes}
 use Rattle.scope_shapes.specs.Faults.{Fault, Check, fault, ◌>>=◌}
-use Rattle.scope_shapes.specs.Headers.{Header, Functions, type_names, packings, headers, main_number}
+use Rattle.scope_shapes.specs.Headers.{Header, Functions, no_functions, type_names, packings, headers, main_number}
 use Rattle.scope_shapes.specs.Kinds.{kind_of}
-use Rattle.scope_shapes.specs.Names.{Scope}
+use Rattle.scope_shapes.specs.Names.{Scope, no_types}
 use Rattle.scope_shapes.specs.Sites.{Globals, Locals}
 use Rattle.scope_shapes.specs.Statements.{block}
 
@@ -79,9 +79,9 @@ funs _ _ made = made
 
 unfoldable pub globals : plain.Tree → Check Globals
 globals tree = do
-  types ← type_names tree.declarations (record { names = []; tuples = [] })
+  types ← type_names tree.declarations no_types
   declared ← packings types tree.declarations []
-  functions ← headers types tree.declarations (record { names = []; headers = [] })
+  functions ← headers types tree.declarations no_functions
   Ok (record { types = types; packings = declared; functions = functions })
 
 -- The end of the source is the place of the fault that there is no `main`.

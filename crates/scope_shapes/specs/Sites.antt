@@ -1,5 +1,5 @@
 -- Where a statement or an expression stands: what is declared in the program, and what is visible in the function.
-use Rattle.std.specs.Prelude.{ℕ, ◌+◌, Bool as Truth, List, [], ◌∷◌, ◌++◌, length, map, Option, Some, None, Ok, is_some, get_or, nat_eq, slice_get, if◌then◌else◌}
+use Rattle.std.specs.Prelude.{ℕ, ◌+◌, Bool as Truth, List, [], ◌∷◌, ◌++◌, length, map, Option, Some, None, Ok, is_some, unwrap_or, nat_eq, slice_get, if◌then◌else◌}
 use Rattle.xanadu_tree.specs.declared.tree.declaration.Identifier.{Identifier}
 use Rattle.xanadu_tree.specs.declared.tree.index.Binder.{Binder}
 use Rattle.xanadu_tree.specs.declared.types.CoreTy.{CoreTy}
@@ -12,7 +12,7 @@ use Rattle.scope_shapes.specs.declared.error.ShapeKind.TheVariants.{NamedTwice, 
 use Rattle.scope_shapes.specs.Faults.{Check, fault, ◌>>=◌}
 use Rattle.scope_shapes.specs.Headers.{Header, Functions}
 use Rattle.scope_shapes.specs.Kinds.{kind_of, same_kind, parts_of}
-use Rattle.scope_shapes.specs.Names.{Scope, meaning, left, place, or_unknown, Types, tuple_type}
+use Rattle.scope_shapes.specs.Names.{Scope, meaning, first, place, or_unknown, Types, tuple_type}
 
 -- ---- the program
 
@@ -38,9 +38,13 @@ declared name k locals = (length locals.kinds, record locals { variables = (name
 unfoldable pub new_variable : Identifier → Kind → Locals → Check (ℕ × Locals)
 new_variable name k locals = if is_some (meaning name.name locals.variables) then fault NamedTwice name.at else Ok (declared name k locals)
 
+-- the latest names gone, but for so many variables and index names
+unfoldable pub without : (variables indices : ℕ) → Locals → Locals
+without variables indices locals = record locals { variables = first variables locals.variables; indices = first indices locals.indices }
+
 -- the locals behind a block that began with the outer ones
-unfoldable pub behind_block : Locals → Locals → Locals
-behind_block outer inner = record inner { variables = left outer.variables inner.variables; indices = left outer.indices inner.indices }
+abbrev pub behind_block : Locals → Locals → Locals
+behind_block outer inner = without (length outer.variables) (length outer.indices) inner
 
 -- ---- expressions and their kinds
 
@@ -49,7 +53,7 @@ pub record Typed : Type 0 where
   pub kind : Kind
 
 abbrev pub variable_kind : List Kind → ℕ → Kind
-variable_kind kinds number = get_or kinds number kind.Unit
+variable_kind kinds number = unwrap_or (slice_get kinds number) kind.Unit
 
 -- the visible variable of this name
 unfoldable pub variable : Locals → Identifier → Check Typed

@@ -2,8 +2,11 @@
 
 ghost use Rattle.std.specs.Prelude.{◌≡◌};
 ghost use Rattle.scope_shapes.specs.Faults.{kind_number};
+ghost use Rattle.scope_shapes.specs.declared.error.ShapeError.TheVariants as shape_error;
 
+use std::alloc::{AllocError, AllocFailed};
 use thiserror::Error;
+use xan_io::Memory;
 
 /// Why a tree has no core.
 #[derive(Clone, Copy, Debug, PartialEq, Eq, Error)]
@@ -14,6 +17,30 @@ pub enum ShapeError {
     /// Memory ran out, or a number of a variable is past 32 bits, or a number of a form past 127.
     #[error("memory")]
     Memory,
+}
+
+impl From<Memory> for ShapeError {
+    ghost from_gives = { λ _ error. error ≡ shape_error.Memory };
+
+    fn from(_error: Memory) -> ShapeError {
+        ShapeError::Memory
+    }
+}
+
+impl From<AllocError> for ShapeError {
+    ghost from_gives = { λ _ error. error ≡ shape_error.Memory };
+
+    fn from(_error: AllocError) -> ShapeError {
+        ShapeError::Memory
+    }
+}
+
+impl<T: Drop> From<AllocFailed<T>> for ShapeError {
+    ghost from_gives = { λ _ error. error ≡ shape_error.Memory };
+
+    fn from(_error: AllocFailed<T>) -> ShapeError {
+        ShapeError::Memory
+    }
 }
 
 /// What is wrong at the token of a fault.
