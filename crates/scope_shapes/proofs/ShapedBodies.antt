@@ -1,5 +1,5 @@
 -- Blocks that are read keep the rules of a core, statement by statement.
-use Rattle.std.proofs.Common.{◌≡◌, sym, ap, subst, ℕ, Bool, true, false, List, [], ◌∷◌, ◌++◌, Some, None, Ok, refl, ◌∙◌}
+use Rattle.std.proofs.Common.{◌≡◌, sym, ap, subst, Bool, true, false, List, [], ◌∷◌, ◌++◌, Ok, refl, ◌∙◌}
 use Rattle.std.specs.Prelude.{◌||◌}
 use Rattle.xanadu_tree.specs.declared.types.Kind.{Kind}
 use Rattle.xanadu_tree.specs.KindRules.{Setting}
@@ -8,15 +8,14 @@ use Rattle.xanadu_tree.specs.Plain as core
 use Rattle.xanadu_tree.specs.PlainOf.{to_stmts}
 use Rattle.xanadu_tree.specs.PlainTree as plain
 use Rattle.scope_shapes.specs.declared.error.ShapeKind.TheVariants.{Unreachable}
-use Rattle.scope_shapes.specs.Faults.{Check, ◌>>=◌}
 use Rattle.scope_shapes.specs.Sites.{Globals, Locals, behind_block, without}
 use Rattle.scope_shapes.specs.Expressions.{test}
-use Rattle.scope_shapes.specs.Statements.{clause_or_none, Done, declare, split, assign, called, printed, returned, Body, empty, and_then, choice, loop, statement, branch, block, statements, statement_at}
-use Rattle.scope_shapes.proofs.ShapedLists.{Then, then_ok, ok_same, where_ok, Begins, begins_through}
+use Rattle.scope_shapes.specs.Statements.{clause_or_none, Done, assign, called, printed, returned, Body, empty, and_then, choice, loop, statement, branch, block, statements, statement_at}
+use Rattle.scope_shapes.proofs.ShapedLists.{then_ok, ok_same, where_ok, Begins, begins_through}
 use Rattle.scope_shapes.proofs.ShapedExpressions.{Knows, site}
 use Rattle.scope_shapes.proofs.ShapedTests.{test_is}
 use Rattle.scope_shapes.proofs.ShapedPlaces.{Stands, Grows, grows_same, grows_through, sees, block_stands, block_grows}
-use Rattle.scope_shapes.proofs.ShapedClauses.{Clauses, clause_or_none_is}
+use Rattle.scope_shapes.proofs.ShapedClauses.{clause_or_none_is}
 use Rattle.scope_shapes.proofs.ShapedStatements.{Moves, unchanged_is, declare_is, split_is, assign_is, called_is, printed_is, returned_is}
 
 -- ---- a statement behind others
@@ -129,12 +128,16 @@ module _ (globals : Globals) (given : Kind) (knows : Knows globals) where
           stands = clause.stands;
           grows = grows_through locals one.value.1 c.value.1 yes_block.grows last;
           is = λ kinds begins.
-            let from_two = begins_through two.value.1.kinds c.value.1.kinds kinds clause.grows.kinds begins in
-            let from_one = begins_through one.value.1.kinds c.value.1.kinds kinds last.kinds begins in
-            let from_start = begins_through locals.kinds one.value.1.kinds kinds yes_block.grows.kinds from_one in
-            (yes_block.after, no_block.after,
-              test_is globals locals kinds given point.visible knows (sees globals.packings locals point kinds st from_start) t it.value it.first,
-              yes_block.is kinds from_one, no_block.is kinds from_two, clause.is kinds begins);
+              let from_two = begins_through two.value.1.kinds c.value.1.kinds kinds clause.grows.kinds begins in
+              let from_one = begins_through one.value.1.kinds c.value.1.kinds kinds last.kinds begins in
+              let from_start = begins_through locals.kinds one.value.1.kinds kinds yes_block.grows.kinds from_one in (
+                yes_block.after,
+                no_block.after,
+                test_is globals locals kinds given point.visible knows (sees globals.packings locals point kinds st from_start) t it.value it.first,
+                yes_block.is kinds from_one,
+                no_block.is kinds from_two,
+                clause.is kinds begins,
+              );
           completes = both_ways _ _ _ _ yes_block.completes no_block.completes;
         })
     statement_is (plain.While t head body at) locals point y st e =
@@ -148,11 +151,15 @@ module _ (globals : Globals) (given : Kind) (knows : Knows globals) where
           stands = turn.stands;
           grows = grows_through locals c.value.1 b.value.1 clause.grows turn.grows;
           is = λ kinds begins.
-            let from_clause = begins_through c.value.1.kinds b.value.1.kinds kinds turn.grows.kinds begins in
-            let from_start = begins_through locals.kinds c.value.1.kinds kinds clause.grows.kinds from_clause in
-            (clause.after, turn.after,
-              test_is globals locals kinds given point.visible knows (sees globals.packings locals point kinds st from_start) t it.value it.first,
-              clause.is kinds from_clause, turn.is kinds begins, refl);
+              let from_clause = begins_through c.value.1.kinds b.value.1.kinds kinds turn.grows.kinds begins in
+              let from_start = begins_through locals.kinds c.value.1.kinds kinds clause.grows.kinds from_clause in (
+                clause.after,
+                turn.after,
+                test_is globals locals kinds given point.visible knows (sees globals.packings locals point kinds st from_start) t it.value it.first,
+                clause.is kinds from_clause,
+                turn.is kinds begins,
+                refl,
+              );
           completes = refl;
         })
     statement_is (plain.Return value at) locals point y st e =
@@ -169,7 +176,7 @@ module _ (globals : Globals) (given : Kind) (knows : Knows globals) where
         let s = then_ok (statements globals given ss empty locals) _ y e in
         let r = statements_are ss locals point empty locals s.value (runs_empty globals given locals point st) s.first in
         subst (λ z. Blocks globals given locals point z.0 z.1) (ok_same (s.value.0, behind_block locals s.value.1) y s.second)
-          (block_from globals given locals point s.value.0 s.value.1 st r)
+        (block_from globals given locals point s.value.0 s.value.1 st r)
 
     statements_are : (ss : plain.Statements) (start : Locals) (point : Point) (body : Body) (locals : Locals) (y : Body × Locals) → Runs globals given start point body locals
         → statements globals given ss body locals ≡ Ok y → Runs globals given start point y.0 y.1

@@ -1,8 +1,7 @@
 -- Clauses that are read keep the rules of a core.
-use Rattle.std.proofs.Common.{◌≡◌, sym, ap, subst, ℕ, zero, suc, ◌+◌, ◌-◌, ◌<◌, ◌≤◌, Bool, true, false, List, [], ◌∷◌, ◌++◌, length, map, Option, Some, None, Ok, refl, arith, ◌∙◌, ◌⊎◌, inl, inr, append_assoc}
-use Rattle.std.specs.Prelude.{slice_get, ◌||◌, if◌then◌else◌}
-use Rattle.std.specs.List.{AllByRecursion, list_any}
-use Rattle.std.specs.BTreeMap.{is_at}
+use Rattle.std.proofs.Common.{◌≡◌, sym, ap, subst, ℕ, ◌+◌, ◌-◌, ◌<◌, Bool, true, false, List, [], ◌∷◌, ◌++◌, map, Option, Some, None, Ok, refl, arith, ◌∙◌, ◌⊎◌, inl, inr}
+use Rattle.std.specs.Prelude.{◌||◌}
+use Rattle.std.specs.List.{AllByRecursion}
 use Rattle.std.specs.BTreeSet.{insert_key}
 use Rattle.std.specs.declared.cmp.Ordering.{Ordering}
 use Rattle.std.specs.declared.cmp.Ordering.TheVariants.{Less, Equal, Greater}
@@ -12,24 +11,22 @@ use Rattle.xanadu_tree.specs.declared.stmt.Clause.{Clause}
 use Rattle.xanadu_tree.specs.declared.types.CoreTy.{CoreTy}
 use Rattle.xanadu_tree.specs.declared.types.Kind.{Kind}
 use Rattle.xanadu_tree.specs.declared.types.Packing.{Packing}
-use Rattle.xanadu_tree.specs.declared.types.Quant.{Quant}
 use Rattle.xanadu_tree.specs.declared.tree.index.Binder.{Binder}
 use Rattle.xanadu_tree.specs.IndexRules.{Stretch, stretch_of}
 use Rattle.xanadu_tree.specs.KindRules.{kind_of, IsAmong, Setting}
-use Rattle.xanadu_tree.specs.BodyRules.{IsType, Point, stating, AreDifferent, IsStated, IsClause, IsClauseIfAny}
+use Rattle.xanadu_tree.specs.BodyRules.{IsType, Point, stating, AreDifferent, IsStated, IsClauseIfAny}
 use Rattle.xanadu_tree.specs.PlainTree as plain
 use Rattle.scope_shapes.specs.declared.error.ShapeKind.TheVariants.{NamedTwice, OtherKind}
-use Rattle.scope_shapes.specs.Faults.{Check, ◌>>=◌}
 use Rattle.scope_shapes.specs.Kinds.{same_kind}
 use Rattle.scope_shapes.specs.Linears.{relations_in}
 use Rattle.scope_shapes.specs.Names.{Scope, Types, meaning, or_unknown}
-use Rattle.scope_shapes.specs.Quantifiers.{Frame, empty_frame, with_variable, is_from, bind, opened, is_index, type_in, closed, quant}
+use Rattle.scope_shapes.specs.Quantifiers.{Frame, empty_frame, with_variable, is_from, bind, opened, is_index, type_in, closed}
 use Rattle.scope_shapes.specs.Sites.{Globals, Locals, variable_kind}
 use Rattle.scope_shapes.specs.Statements.{matching, clause_variable, clause_variables, clause, clause_or_none}
-use Rattle.scope_shapes.proofs.ShapedLists.{Then, then_ok, ok_same, unless_ok, where_ok, all_with, all_found, Begins, begins_same, Ends, ends_same, ends_with, ends_through}
+use Rattle.scope_shapes.proofs.ShapedLists.{then_ok, ok_same, unless_ok, where_ok, all_with, all_found, Begins, begins_same, Ends, ends_same, ends_with, ends_through}
 use Rattle.scope_shapes.proofs.ShapedForms.{Known, known_name}
-use Rattle.scope_shapes.proofs.ShapedQuantifiers.{own, Wider, Frames, Typed, Fits, written, opened_opens, type_is}
-use Rattle.scope_shapes.proofs.ShapedTypes.{same_wider, wider_through, begins_frames, closed_is, Closes, closes}
+use Rattle.scope_shapes.proofs.ShapedQuantifiers.{Wider, Frames, Fits, written, opened_opens, type_is}
+use Rattle.scope_shapes.proofs.ShapedTypes.{same_wider, wider_through, begins_frames, closed_is, closes}
 use Rattle.scope_shapes.proofs.ShapedKinds.{same_kind_is}
 use Rattle.scope_shapes.proofs.ShapedExpressions.{Knows, site}
 use Rattle.scope_shapes.proofs.ShapedPlaces.{IsVariable, IsGood, Stands, Grows, grows_same, seen_one}
@@ -80,6 +77,7 @@ listed_insert (m ∷ ms) n x h = by (nat_cmp n m) (ranked n m (nat_cmp n m) refl
     later : (b : Bool) → (b || is_index x ms) ≡ true → (is_index x ms ≡ true → is_index x (insert_key nat_cmp ms n) ≡ true) → (b || is_index x (insert_key nat_cmp ms n)) ≡ true
     later true h f = refl
     later false h f = f h
+
     by : (o : Ordering) → MatchOrdering o (n < m) (n ≡ m) (m < n) → (x ≡ n) ⊎ (is_index x (m ∷ ms) ≡ true)
         → ((x ≡ n) ⊎ (is_index x ms ≡ true) → is_index x (insert_key nat_cmp ms n) ≡ true)
         → is_index x (match_ordering o (n ∷ m ∷ ms) (m ∷ ms) (m ∷ insert_key nat_cmp ms n)) ≡ true
@@ -139,17 +137,17 @@ variable_states P around types visible locals bare_from start named vars frame p
     let v = all_found (IsVariable visible locals.kinds) _ locals.variables s.value names (known_name p.name.at _ s.value s.first) in
     let typed = type_is P around types frame locals.indices (types_of vars) bare_from p.ty t.value fits st.frames t.first in
     subst (λ z. Stating P around visible locals locals.indices bare_from start (insert_key nat_cmp named z.0.0) (vars ++ (z.0 ∷ [])) z.1) (ok_same ((s.value, m.value), t.value.1) y m.second)
-      (subst (λ ty. Stating P around visible locals locals.indices bare_from start (insert_key nat_cmp named s.value) (vars ++ ((s.value, ty) ∷ [])) t.value.1) it
-        (record {
-          frames = subst (λ ts. Frames P around t.value.1 locals.indices ts bare_from) (sym (map_with (λ stated. stated.1) vars (s.value, t.value.0))) typed.frames;
-          wider = wider_through start frame t.value.1 st.wider typed.wider;
-          right = all_with (IsRight visible locals) vars (s.value, t.value.0) st.right (v, is);
-          different = subst AreDifferent (sym (map_with (λ stated. stated.0) vars (s.value, t.value.0)))
-            (different_with (numbers_of vars) s.value st.different (λ h. not_both (is_index s.value named) (st.listed s.value h) u.0));
-          listed = λ x h. listed_insert named s.value x
-            (elim (among_with (numbers_of vars) s.value x (subst (λ ns. IsAmong ns x) (map_with (λ stated. stated.0) vars (s.value, t.value.0)) h))
-              [ inl k ↦ inr (st.listed x k) | inr k ↦ inl k ]);
-        }))
+    (subst (λ ty. Stating P around visible locals locals.indices bare_from start (insert_key nat_cmp named s.value) (vars ++ ((s.value, ty) ∷ [])) t.value.1) it
+    (record {
+      frames = subst (λ ts. Frames P around t.value.1 locals.indices ts bare_from) (sym (map_with (λ stated. stated.1) vars (s.value, t.value.0))) typed.frames;
+      wider = wider_through start frame t.value.1 st.wider typed.wider;
+      right = all_with (IsRight visible locals) vars (s.value, t.value.0) st.right (v, is);
+      different = subst AreDifferent (sym (map_with (λ stated. stated.0) vars (s.value, t.value.0)))
+          (different_with (numbers_of vars) s.value st.different (λ h. not_both (is_index s.value named) (st.listed s.value h) u.0));
+      listed = λ x h. listed_insert named s.value x
+          (elim (among_with (numbers_of vars) s.value x (subst (λ ns. IsAmong ns x) (map_with (λ stated. stated.0) vars (s.value, t.value.0)) h))
+          [ inl k ↦ inr (st.listed x k) | inr k ↦ inl k ]);
+    }))
   where
     not_both : (b : Bool) → b ≡ true → b ≡ false → ⊥
     not_both true h k = absurd (cc)
@@ -165,7 +163,7 @@ variables_state P around types visible locals bare_from start named vars frame [
 variables_state P around types visible locals bare_from start named vars frame (p ∷ ps) y fits names st e =
     let s = then_ok (clause_variable types locals p named frame) (λ z. clause_variables types locals ps (insert_key nat_cmp named z.0.0) (vars ++ (z.0 ∷ [])) z.1) y e in
     variables_state P around types visible locals bare_from start (insert_key nat_cmp named s.value.0.0) (vars ++ (s.value.0 ∷ [])) s.value.1 ps y fits names
-      (variable_states P around types visible locals bare_from start named vars frame p s.value fits names st s.first) s.second
+    (variable_states P around types visible locals bare_from start named vars frame p s.value fits names st s.first) s.second
 
 -- ---- clauses
 
@@ -193,7 +191,7 @@ clause_is globals given c locals point y knows st e =
     let b = opened_opens point.reach c.quantifier locals.next locals.indices s.value st.known s.first in
     let f = begins_frames globals.packings point.reach locals.next (written c.quantifier) s.value locals.indices b in
     let all = variables_state globals.packings point.reach globals.types point.visible (record locals { indices = s.value.1 }) (locals.next + written c.quantifier) s.value.0 [] [] s.value.0
-          c.variables t.value knows.fits st.names (record { frames = f; wider = same_wider s.value.0; right = tt; different = tt; listed = λ x h. absurd h }) t.first in
+    c.variables t.value knows.fits st.names (record { frames = f; wider = same_wider s.value.0; right = tt; different = tt; listed = λ x h. absurd h }) t.first in
     let at : t.value.1.first ≡ locals.next = all.1.wider.first ∙ b.first in
     let close = closes globals.packings point.reach c.quantifier locals.next t.value.1 s.value.1 (types_of t.value.0) u.value at all.1.frames u.first in
     let q = (closed_is c.quantifier t.value.1 u.value u.first).0 in
@@ -205,16 +203,19 @@ clause_is globals given c locals point y knows st e =
         good = st.good;
         variables = st.variables;
         known = subst (λ z. Known (stretch_of locals.next z ∷ point.reach) s.value.1) q
-          (subst (λ n. Known (record { first = n; count = t.value.1.next - t.value.1.first } ∷ point.reach) s.value.1) at all.1.frames.known);
+            (subst (λ n. Known (record { first = n; count = t.value.1.next - t.value.1.first } ∷ point.reach) s.value.1) at all.1.frames.known);
         indices = omega (arith, st.indices, ap (λ z. z.count) q, at, all.1.frames.low);
       };
       grows = record { variables = ends_same locals.variables; kinds = begins_same locals.kinds; indices = opened_ends c.quantifier locals.next locals.indices s.value s.first };
-      is = λ kinds begins. (record {
-        first = sym st.indices;
-        quantified = close.quantified;
-        stated = stated_all (site globals kinds given) point.visible (stretch_of locals.next u.value ∷ point.reach) (record locals { indices = s.value.1 }) t.value.0 st.good begins all.1.right close.types;
-        different = all.1.different;
-      }, refl);
+      is = λ kinds begins. (
+        record {
+          first = sym st.indices;
+          quantified = close.quantified;
+          stated = stated_all (site globals kinds given) point.visible (stretch_of locals.next u.value ∷ point.reach) (record locals { indices = s.value.1 }) t.value.0 st.good begins all.1.right close.types;
+          different = all.1.different;
+        },
+        refl,
+      );
     })
 
 pub clause_or_none_is : (globals : Globals) (given : Kind) (c : Option plain.WrittenClause) (locals : Locals) (point : Point) (y : Option Clause × Locals) → Knows globals

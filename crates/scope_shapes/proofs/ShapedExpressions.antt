@@ -1,33 +1,29 @@
 -- Expressions that are read have their kinds.
-use Rattle.std.proofs.Common.{◌≡◌, sym, ap, subst, ℕ, zero, suc, ◌+◌, ◌-◌, ◌<◌, ◌≤◌, Bool, true, false, List, [], ◌∷◌, ◌++◌, length, map, Option, Some, None, Ok, refl, arith, ◌∙◌, append_assoc}
-use Rattle.std.specs.Prelude.{slice_get, nat_eq, unwrap_or}
+use Rattle.std.proofs.Common.{◌≡◌, sym, ap, subst, ℕ, ◌+◌, Bool, true, false, List, [], ◌∷◌, ◌++◌, length, map, Option, Some, None, Ok, refl, arith, ◌∙◌, append_assoc}
+use Rattle.std.specs.Prelude.{slice_get}
 use Rattle.std.specs.List.{AllByRecursion}
-use Rattle.std.proofs.lemmas.Option.{same_Some, slice_get-map}
-use Rattle.std.specs.Option.{option_map}
 use Rattle.xanadu_tree.specs.declared.expr.Op.{Op}
 use Rattle.xanadu_tree.specs.declared.types.CoreTy.{CoreTy}
 use Rattle.xanadu_tree.specs.declared.types.Kind.{Kind}
 use Rattle.xanadu_tree.specs.declared.types.Kind.TheVariants as kind
 use Rattle.xanadu_tree.specs.declared.types.Packing.{Packing}
 use Rattle.xanadu_tree.specs.declared.tree.declaration.Identifier.{Identifier}
-use Rattle.xanadu_tree.specs.KindRules.{kind_of, IsValue, cell_kind, tuple_type, Setting, Header as Called, IsAmong, IsSomeLink, HasKind, AreNumbers, HaveKinds}
+use Rattle.xanadu_tree.specs.KindRules.{kind_of, IsValue, tuple_type, Setting, Header as Called, IsAmong, IsSomeLink, HasKind, AreNumbers, HaveKinds}
 use Rattle.xanadu_tree.specs.Shaped.{IsPacking}
 use Rattle.xanadu_tree.specs.Plain as core
 use Rattle.xanadu_tree.specs.PlainOf.{to_exprs, to_links}
 use Rattle.xanadu_tree.specs.PlainTree as plain
-use Rattle.xanadu_tree.specs.Written.{expression_at, unary_at, product_at, sum_at, postfix_at, IsSome}
+use Rattle.xanadu_tree.specs.Written.{IsSome}
 use Rattle.scope_shapes.specs.Faults.{Check, ◌>>=◌}
-use Rattle.scope_shapes.specs.Headers.{Header, Functions}
-use Rattle.scope_shapes.specs.Kinds.{kind_at, element_kind, parts_of}
-use Rattle.scope_shapes.specs.Names.{Scope, Types, meaning, place, or_unknown, tuple_type as named_tuple}
-use Rattle.scope_shapes.specs.Quantifiers.{element_number}
-use Rattle.scope_shapes.specs.Sites.{Globals, Locals, Typed, variable_kind, variable, asked, asked_array, header_at, function, called, made}
-use Rattle.scope_shapes.specs.Expressions.{has_addend, has_factor, count, without_or, without_and, number, Link, chain, compare, expression, conjunction, negation, comparison, compared, sum, addends, product, factors, unary, postfix, indexed, primary, arguments}
-use Rattle.scope_shapes.proofs.ShapedLists.{Then, then_ok, ok_same, all_found}
+use Rattle.scope_shapes.specs.Headers.{Header}
+use Rattle.scope_shapes.specs.Kinds.{kind_at, parts_of}
+use Rattle.scope_shapes.specs.Names.{meaning, place, or_unknown, tuple_type as named_tuple}
+use Rattle.scope_shapes.specs.Sites.{Globals, Locals, Typed, variable_kind, variable, asked, header_at, function, called, made}
+use Rattle.scope_shapes.specs.Expressions.{count, number, Link, chain}
+use Rattle.scope_shapes.proofs.ShapedLists.{then_ok, ok_same, all_found}
 use Rattle.scope_shapes.proofs.ShapedForms.{known_name}
-use Rattle.scope_shapes.proofs.ShapedQuantifiers.{Fits, element_is, tuple_number_is}
-use Rattle.scope_shapes.proofs.ShapedHeaders.{IsGiven, IsHeader}
-use Rattle.scope_shapes.proofs.ShapedKinds.{IsKind, IsTuple, kind_of_type, asked_is, asked_array_is, counted_is, element_kind_is, cell_is_kind, tuple_is}
+use Rattle.scope_shapes.proofs.ShapedQuantifiers.{Fits, tuple_number_is}
+use Rattle.scope_shapes.proofs.ShapedKinds.{IsKind, asked_is, counted_is}
 
 -- ---- what is known of the program, and of the variables that are visible
 
@@ -101,7 +97,7 @@ kinds_are (plain.AnExpression e es) front [] types place is at n = absurd (omega
 kinds_are (plain.AnExpression e es) front (t ∷ back) types place is at n =
     let here : kind_at types place ≡ kind_of t = ap (λ ts. kind_at ts place) is ∙ ap (kind_at (front ++ (t ∷ back))) at ∙ at_place front t back in
     let later : kinds_of es types (place + 1) ≡ map kind_of back =
-          kinds_are es (front ++ (t ∷ [])) back types (place + 1) (is ∙ sym (append_assoc front (t ∷ []) back)) (omega (arith, at, length_more front t)) (omega (arith, n)) in
+    kinds_are es (front ++ (t ∷ [])) back types (place + 1) (is ∙ sym (append_assoc front (t ∷ []) back)) (omega (arith, at, length_more front t)) (omega (arith, n)) in
     ap (λ k. k ∷ kinds_of es types (place + 1)) here ∙ ap (λ ks. kind_of t ∷ ks) later
   where
     length_more : (us : List CoreTy) (u : CoreTy) → length (us ++ (u ∷ [])) ≡ length us + 1
@@ -148,8 +144,8 @@ variable_is globals locals kinds given visible name y sees e =
     let s = then_ok (or_unknown name.at (meaning name.name locals.variables)) _ y e in
     let seen = all_found (Seen globals.packings locals kinds visible) _ locals.variables s.value sees (known_name name.at _ s.value s.first) in
     subst (λ z. Has (site globals kinds given) visible z × IsValue z.kind)
-      (ok_same (record { expr = core.Var s.value; kind = variable_kind locals.kinds s.value }) y s.second)
-      (record { has = (seen.among, seen.has); is = seen.is }, seen.value)
+    (ok_same (record { expr = core.Var s.value; kind = variable_kind locals.kinds s.value }) y s.second)
+    (record { has = (seen.among, seen.has); is = seen.is }, seen.value)
 
 -- ---- chains
 
@@ -162,4 +158,4 @@ chain_is set visible true at first rest y has links e =
     let t = then_ok rest (λ ls. Ok (number (core.Chain s.value (to_links ls)))) y s.second in
     let ls = links t.value t.first refl in
     subst (Has set visible) (ok_same (number (core.Chain s.value (to_links t.value))) y t.second)
-      (record { has = (refl, asked_is set visible kind.Int at first s.value s.first has.has, some_link t.value ls.1, ls.0); is = tt })
+    (record { has = (refl, asked_is set visible kind.Int at first s.value s.first has.has, some_link t.value ls.1, ls.0); is = tt })

@@ -1,5 +1,5 @@
 -- Forms that are read are forms: their terms rise, none is zero, and they name what is in scope.
-use Rattle.std.proofs.Common.{◌≡◌, ◌≢◌, sym, ap, subst, ℕ, zero, suc, ℤ, pos, negsuc, ◌+◌, ◌<◌, ◌≤◌, Bool, true, false, List, [], ◌∷◌, ◌++◌, map, Option, Some, None, Ok, refl, arith, ◌∙◌}
+use Rattle.std.proofs.Common.{◌≡◌, ◌≢◌, ap, subst, ℕ, suc, ℤ, pos, negsuc, ◌<◌, ◌≤◌, Bool, true, false, List, [], ◌∷◌, ◌++◌, map, Option, Some, None, Ok, refl, arith}
 use Rattle.std.specs.Prelude.{cond, filter, not}
 use Rattle.std.specs.List.{AllByRecursion}
 use Rattle.std.specs.BTreeMap.{insert_entry}
@@ -16,10 +16,10 @@ use Rattle.xanadu_tree.specs.declared.tree.index.Sign.{Sign}
 use Rattle.xanadu_tree.specs.declared.tree.index.Sign.TheVariants.{Plus, Minus}
 use Rattle.xanadu_tree.specs.IndexRules.{Stretch, Reaches, AreRising, IsForm}
 use Rattle.xanadu_tree.specs.PlainTree as plain
-use Rattle.scope_shapes.specs.Faults.{Check, ◌>>=◌}
+use Rattle.scope_shapes.specs.Faults.{◌>>=◌}
 use Rattle.scope_shapes.specs.Linears.{Form, constant_form, with_term, with_constant, is_term, term_of, linear, term_in, terms_in, index_in, row_in, with_row, relation_in, relations_in, signed, within, first_sign, opposite}
 use Rattle.scope_shapes.specs.Names.{Scope, meaning, or_unknown}
-use Rattle.scope_shapes.proofs.ShapedLists.{Then, then_ok, ok_same, all_weaker, all_with, all_found}
+use Rattle.scope_shapes.proofs.ShapedLists.{then_ok, ok_same, all_with, all_found}
 
 -- each name means an index variable of these quantifiers
 abbrev pub Known : List Stretch → Scope → Type 0
@@ -121,11 +121,11 @@ term_keeps reach scope sign (term.Number n at) form y known keeps e = subst (Kee
 term_keeps reach scope sign (term.Product n name at) form y known keeps e =
     let t = then_ok (or_unknown name.at (meaning name.name scope)) (λ v. Ok (with_term v (signed sign n) form)) y e in
     subst (Keeps reach) (ok_same _ y t.second)
-      (with_term_keeps reach t.value _ form (found_name reach scope name.name t.value known (known_name name.at _ t.value t.first)) keeps)
+    (with_term_keeps reach t.value _ form (found_name reach scope name.name t.value known (known_name name.at _ t.value t.first)) keeps)
 term_keeps reach scope sign (term.Variable name) form y known keeps e =
     let t = then_ok (or_unknown name.at (meaning name.name scope)) (λ v. Ok (with_term v (signed sign (pos 1)) form)) y e in
     subst (Keeps reach) (ok_same _ y t.second)
-      (with_term_keeps reach t.value _ form (found_name reach scope name.name t.value known (known_name name.at _ t.value t.first)) keeps)
+    (with_term_keeps reach t.value _ form (found_name reach scope name.name t.value known (known_name name.at _ t.value t.first)) keeps)
 
 terms_keep : (reach : List Stretch) (scope : Scope) (side : Sign) (ts : List (Sign × IndexTerm)) (form y : Form) → Known reach scope → Keeps reach form
     → terms_in scope side ts form ≡ Ok y → Keeps reach y
@@ -147,7 +147,7 @@ row_is : (reach : List Stretch) (scope : Scope) (strict : Bool) (side : Sign) (r
 unfolding row_in
 row_is reach scope strict side r y known e =
     let s = then_ok (index_in scope side r.left (constant_form (cond strict (negsuc 0) (pos 0))))
-          (λ left. index_in scope (opposite side) r.right left >>= (λ both. Ok (linear both))) y e in
+    (λ left. index_in scope (opposite side) r.right left >>= (λ both. Ok (linear both))) y e in
     let t = then_ok (index_in scope (opposite side) r.right s.value) (λ both. Ok (linear both)) y s.second in
     let left = index_keeps reach scope side r.left _ s.value known (constant_keeps reach _) s.first in
     subst (IsForm reach) (ok_same _ y t.second) (linear_is reach t.value (index_keeps reach scope _ r.right s.value t.value known left t.first))
@@ -160,7 +160,7 @@ with_row_are : (reach : List Stretch) (scope : Scope) (strict : Bool) (side : Si
 with_row_are reach scope strict side r rows ys known are e =
     let s = then_ok (row_in scope strict side r) (λ row. Ok (rows ++ (row ∷ []))) ys e in
     subst (AreForms reach) (ok_same _ ys s.second)
-      (all_with (IsForm reach) rows s.value are (row_is reach scope strict side r s.value known s.first))
+    (all_with (IsForm reach) rows s.value are (row_is reach scope strict side r s.value known s.first))
 
 relation_are : (reach : List Stretch) (scope : Scope) (rel : IndexRelation) (r : plain.Relation) (rows ys : List Linear) → Known reach scope
     → AreForms reach rows → relation_in scope rel r rows ≡ Ok ys → AreForms reach ys

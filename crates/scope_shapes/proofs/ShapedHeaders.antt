@@ -1,29 +1,28 @@
 -- Headers that are read keep the rules of a core.
-use Rattle.std.proofs.Common.{◌≡◌, sym, ap, subst, ℕ, zero, suc, ◌+◌, ◌-◌, ◌<◌, ◌≤◌, Bool, true, false, List, [], ◌∷◌, ◌++◌, length, map, Option, Some, None, Ok, refl, arith, ◌∙◌, ◌⊎◌, inl, inr}
-use Rattle.std.specs.Prelude.{cond, is_some, slice_get, if◌then◌else◌}
+use Rattle.std.proofs.Common.{◌≡◌, ap, subst, ℕ, ◌+◌, ◌-◌, ◌≤◌, List, [], ◌∷◌, ◌++◌, length, Option, Some, None, Ok, refl, arith, ◌∙◌, ◌⊎◌, inl, inr}
+use Rattle.std.specs.Prelude.{is_some}
 use Rattle.std.specs.List.{AllByRecursion}
 use Rattle.xanadu_tree.specs.declared.types.CoreTy.{CoreTy}
 use Rattle.xanadu_tree.specs.declared.types.CoreTy.TheVariants as ty
-use Rattle.xanadu_tree.specs.declared.types.Kind.{Kind}
 use Rattle.xanadu_tree.specs.declared.types.Kind.TheVariants as kind
 use Rattle.xanadu_tree.specs.declared.types.Packing.{Packing}
 use Rattle.xanadu_tree.specs.declared.types.Quant.{Quant}
 use Rattle.xanadu_tree.specs.declared.tree.index.Binder.{Binder}
-use Rattle.xanadu_tree.specs.IndexRules.{Stretch, Reaches, IsQuantified, stretch_of}
+use Rattle.xanadu_tree.specs.IndexRules.{Stretch, IsQuantified, stretch_of}
 use Rattle.xanadu_tree.specs.KindRules.{kind_of, IsValue}
 use Rattle.xanadu_tree.specs.BodyRules.{IsType}
 use Rattle.xanadu_tree.specs.Shaped.{no_index, no_variables}
 use Rattle.xanadu_tree.specs.PlainTree as plain
 use Rattle.scope_shapes.specs.declared.error.ShapeKind.TheVariants.{NamedTwice}
-use Rattle.scope_shapes.specs.Faults.{Check, fault, ◌>>=◌}
+use Rattle.scope_shapes.specs.Faults.{Check, ◌>>=◌}
 use Rattle.scope_shapes.specs.Names.{Scope, Types, meaning}
-use Rattle.scope_shapes.specs.Quantifiers.{Frame, empty_frame, opened, type_in, closed, quant}
+use Rattle.scope_shapes.specs.Quantifiers.{Frame, opened, type_in, closed, quant}
 use Rattle.scope_shapes.specs.Headers.{Given, Header, nothing, parameters_in, given_in, header}
 use Rattle.scope_shapes.specs.Shape.{binder_names, quantifier_names}
 use Rattle.scope_shapes.proofs.ShapedForms.{Known}
-use Rattle.scope_shapes.proofs.ShapedQuantifiers.{own, Wider, Bound, Frames, Typed, Fits, written, opened_opens, type_is}
-use Rattle.scope_shapes.proofs.ShapedTypes.{begins_frames, closed_is, Closes, closes, wider_through, same_wider}
-use Rattle.scope_shapes.proofs.ShapedLists.{Then, then_ok, ok_same, unless_ok, length_both}
+use Rattle.scope_shapes.proofs.ShapedQuantifiers.{own, Frames, Typed, Fits, written, opened_opens, type_is}
+use Rattle.scope_shapes.proofs.ShapedTypes.{begins_frames, closed_is, closes, wider_through, same_wider}
+use Rattle.scope_shapes.proofs.ShapedLists.{then_ok, ok_same, unless_ok, length_both}
 
 -- ---- parameters
 
@@ -35,7 +34,7 @@ parameters_are P around types frame scope [] named made bare_from y fits f e =
     subst (λ z. Typed P around frame scope z.0 bare_from z.1) (ok_same (made, frame) y e) (record { frames = f; wider = same_wider frame })
 parameters_are P around types frame scope (p ∷ ps) named made bare_from y fits f e =
     let rest : CoreTy × Frame → Check (List CoreTy × Frame) =
-          λ z. parameters_in types scope ps ((p.name.name, length made) ∷ named) (made ++ (z.0 ∷ [])) z.1 in
+    λ z. parameters_in types scope ps ((p.name.name, length made) ∷ named) (made ++ (z.0 ∷ [])) z.1 in
     let u = unless_ok (is_some (meaning p.name.name named)) NamedTwice p.name.at (type_in types scope p.ty frame >>= rest) y e in
     let s = then_ok (type_in types scope p.ty frame) rest y u.1 in
     let one = type_is P around types frame scope made bare_from p.ty s.value fits f s.first in
@@ -48,7 +47,7 @@ unfolding parameters_in
 parameters_count types frame scope [] named made y e = let h : length made ≡ length y.0 = ap (λ z. length z.0) (ok_same (made, frame) y e) in omega (arith, h)
 parameters_count types frame scope (p ∷ ps) named made y e =
     let rest : CoreTy × Frame → Check (List CoreTy × Frame) =
-          λ z. parameters_in types scope ps ((p.name.name, length made) ∷ named) (made ++ (z.0 ∷ [])) z.1 in
+    λ z. parameters_in types scope ps ((p.name.name, length made) ∷ named) (made ++ (z.0 ∷ [])) z.1 in
     let u = unless_ok (is_some (meaning p.name.name named)) NamedTwice p.name.at (type_in types scope p.ty frame >>= rest) y e in
     let s = then_ok (type_in types scope p.ty frame) rest y u.1 in
     omega (arith, parameters_count types s.value.1 scope ps _ (made ++ (s.value.0 ∷ [])) y s.second, length_both made (s.value.0 ∷ []))
@@ -83,7 +82,7 @@ given_is P around types scope first (plain.AValue q t at) y fits known e =
     let it = type_is P around types s.value.0 s.value.1 [] (first + written q) t one.value fits f one.first in
     let c = closes P around q first one.value.1 s.value.1 (one.value.0 ∷ []) u.value (it.wider.first ∙ b.first) it.frames u.first in
     subst (IsGiven P around first) (ok_same (record { quant = u.value; ty = one.value.0; kind = kind_of one.value.0 }) y u.second)
-      (record { is = c.types.0; quantified = c.quantified; which = inr (refl, kind_is_value one.value.0) })
+    (record { is = c.types.0; quantified = c.quantified; which = inr (refl, kind_is_value one.value.0) })
 
 -- ---- headers
 
@@ -126,14 +125,16 @@ header_is P types d y fits e =
     let q = (closed_is d.quantifier t.value.1 u.value u.first).0 in
     let known = closing_known t.value.1 u.value s.value.1 q at all.frames.known in
     let enough : written d.quantifier ≤ u.value.count = omega (arith, all.frames.from, at, ap (λ z. z.count) q) in
-    subst (λ h. IsHeader P h × (h.declaration ≡ d)) (ok_same (record { declaration = d; quant = u.value; params = t.value.0; given = g.value }) y g.second)
-      (record {
+    subst (λ h. IsHeader P h × (h.declaration ≡ d)) (ok_same (record { declaration = d; quant = u.value; params = t.value.0; given = g.value }) y g.second) (
+      record {
         params = c.types;
         quantified = c.quantified;
         given = given_is P (stretch_of 0 u.value ∷ []) types s.value.1 u.value.count d.result g.value fits known g.first;
         count = parameters_count types s.value.0 s.value.1 d.parameters [] [] t.value t.first ∙ zero_before (length d.parameters);
         names = quantifier_names_known u.value.count d.quantifier enough;
-      }, refl)
+      },
+      refl,
+    )
   where
     zero_before : (n : ℕ) → 0 + n ≡ n
     zero_before n = omega arith

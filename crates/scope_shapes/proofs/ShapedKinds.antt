@@ -1,5 +1,5 @@
 -- Kinds and numbers as they are read, and as the rules of a core name them.
-use Rattle.std.proofs.Common.{◌≡◌, sym, ap, subst, ℕ, zero, suc, ◌+◌, ◌-◌, ◌<◌, ◌≤◌, Bool, true, false, List, [], ◌∷◌, ◌++◌, length, map, get_or, Option, Some, None, Ok, refl, arith, ◌∙◌}
+use Rattle.std.proofs.Common.{◌≡◌, ap, subst, ℕ, zero, suc, ◌-◌, ◌≤◌, Bool, true, false, List, [], ◌∷◌, Option, Some, None, Ok, refl, arith, ◌∙◌}
 use Rattle.std.specs.Prelude.{cond, slice_get, if◌then◌else◌, nat_eq}
 use Rattle.std.specs.Option.{option_and_then}
 use Rattle.std.specs.List.{AllByRecursion}
@@ -15,7 +15,6 @@ use Rattle.xanadu_tree.specs.KindRules.{kind_of, IsValue, cell_kind, held_kind, 
 use Rattle.xanadu_tree.specs.BodyRules.{IsType}
 use Rattle.xanadu_tree.specs.Shaped.{IsPacking}
 use Rattle.scope_shapes.specs.declared.error.ShapeKind.TheVariants.{OtherKind, Count}
-use Rattle.scope_shapes.specs.Faults.{Check, fault}
 use Rattle.scope_shapes.specs.Kinds.{same_kind, kind_at, element_kind, parts_of}
 use Rattle.scope_shapes.specs.Sites.{Typed, asked, asked_array, asked_tuple, asked_value, counted}
 use Rattle.xanadu_tree.specs.Plain as core
@@ -127,6 +126,7 @@ cell_is_value P (suc (suc n)) held e = by (slice_get P n) e
     at_packing true parts e = subst IsValue (same_Some _ held e) tt
     at_packing false [] e = absurd (cc)
     at_packing false (t ∷ ts) e = subst IsValue (same_Some _ held e) (kind_is_value t)
+
     by : (o : Option Packing) → option_and_then (held_kind (suc (suc n))) o ≡ Some held → IsValue held
     by None e = absurd (cc)
     by (Some p) e = at_packing p.tuple p.parts e
@@ -140,10 +140,12 @@ cell_is_kind P (suc (suc n)) held are e = by (slice_get P n) refl e
     at_parts : (reach : List Stretch) (parts : List CoreTy) → AllByRecursion (IsType P reach) parts → first_kind parts ≡ Some held → IsKind P held
     at_parts reach [] is e = absurd (cc)
     at_parts reach (t ∷ ts) is e = subst (IsKind P) (same_Some _ held e) (kind_of_type P reach t is.0)
+
     at_packing : (p : Packing) (tuple : Bool) → p.tuple ≡ tuple → slice_get P n ≡ Some p → IsPacking P p
         → cond tuple (Some (kind.Named (suc (suc n)))) (first_kind p.parts) ≡ Some held → IsKind P held
     at_packing p true flag at is e = subst (IsKind P) (same_Some _ held e) (p, ap (option_and_then if_tuple) at ∙ ap (λ b. cond b (Some p) None) flag)
     at_packing p false flag at is e = at_parts _ p.parts is.parts e
+
     by : (o : Option Packing) → slice_get P n ≡ o → option_and_then (held_kind (suc (suc n))) o ≡ Some held → IsKind P held
     by None at e = absurd (cc)
     by (Some p) at e = at_packing p p.tuple refl at (all_at (IsPacking P) P n p are at) e
@@ -162,11 +164,13 @@ tuple_is P (suc (suc n)) p e = by (slice_get P n) refl e
     at_packing : (q : Packing) (tuple : Bool) → cond tuple (Some q) None ≡ Some p → q ≡ p
     at_packing q true e = same_Some q p e
     at_packing q false e = absurd (cc)
+
     by : (o : Option Packing) → slice_get P n ≡ o → option_and_then if_tuple o ≡ Some p
         → (found_parts (slice_get P (suc (suc n) - 2)) ≡ p.parts) × (AllByRecursion (IsPacking P) P → IsPacking P p)
     by None at e = absurd (cc)
     by (Some q) at e =
         let back : suc (suc n) - 2 ≡ n = omega arith in
-        let same = at_packing q q.tuple e in
-        (ap (λ m. found_parts (slice_get P m)) back ∙ ap found_parts at ∙ ap (λ r. r.parts) same,
-          λ are. all_at (IsPacking P) P n p are (at ∙ ap Some same))
+        let same = at_packing q q.tuple e in (
+          ap (λ m. found_parts (slice_get P m)) back ∙ ap found_parts at ∙ ap (λ r. r.parts) same,
+          λ are. all_at (IsPacking P) P n p are (at ∙ ap Some same),
+        )

@@ -1,12 +1,12 @@
 -- Facts of lists, of tests and of chains of checks that the laws on shaped cores share.
-use Rattle.std.proofs.Common.{◌≡◌, ◌≢◌, sym, ap, subst, ℕ, zero, suc, ◌+◌, ◌-◌, ◌<◌, ◌≤◌, Bool, true, false, List, [], ◌∷◌, ◌++◌, length, map, take, drop, get_or, Option, Some, None, Ok, Err, refl, arith, ◌∙◌, ◌⊎◌, inl, inr, append_assoc}
-use Rattle.std.specs.Prelude.{slice_get, if◌then◌else◌, bytes_eq, nat_eq, cond}
+use Rattle.std.proofs.Common.{◌≡◌, sym, ap, subst, ℕ, zero, suc, ◌+◌, ◌-◌, Bool, true, false, List, [], ◌∷◌, ◌++◌, length, map, drop, Some, Ok, Err, refl, arith, ◌∙◌, inr, append_assoc}
+use Rattle.std.specs.Prelude.{slice_get, if◌then◌else◌, cond}
 use Rattle.std.specs.Map.{lookup}
-use Rattle.std.specs.List.{AllByRecursion, range_with_len}
+use Rattle.std.specs.List.{AllByRecursion}
 use Rattle.std.proofs.lemmas.Option.{same_Some}
 use Rattle.xanadu_tree.specs.KindRules.{IsAmong}
 use Rattle.scope_shapes.specs.declared.error.ShapeKind.{ShapeKind}
-use Rattle.scope_shapes.specs.Faults.{Check, Fault, fault, ◌>>=◌}
+use Rattle.scope_shapes.specs.Faults.{Check, fault, ◌>>=◌}
 
 -- ---- checks that gave a value
 

@@ -1,6 +1,6 @@
 -- Names of functions, and which function is `main`.
-use Rattle.std.proofs.Common.{◌≡◌, sym, ap, subst, ℕ, zero, suc, ◌+◌, ◌<◌, Bool, true, false, List, [], ◌∷◌, ◌++◌, length, map, get_or, Option, Some, None, Ok, refl, arith, ◌∙◌, ◌⊎◌, inl, inr, append_assoc}
-use Rattle.std.specs.Prelude.{slice_get, ◌||◌, if◌then◌else◌, bytes_eq, codes, nat_eq}
+use Rattle.std.proofs.Common.{◌≡◌, sym, ap, subst, ℕ, zero, suc, Bool, true, false, List, [], ◌∷◌, ◌++◌, length, map, get_or, Option, Some, None, Ok, refl, arith, ◌∙◌, ◌⊎◌, inl, inr}
+use Rattle.std.specs.Prelude.{slice_get, ◌||◌, if◌then◌else◌, bytes_eq, codes}
 use Rattle.std.specs.List.{AllByRecursion, list_any}
 use Rattle.std.proofs.lemmas.Bool.{eqb-true}
 use Rattle.std.proofs.lemmas.Slice.Eq.{bytes_eq-Decides}
@@ -19,10 +19,10 @@ use Rattle.xanadu_tree.specs.Shaped.{IsArgument}
 use Rattle.xanadu_tree.specs.Written.{result_at}
 use Rattle.xanadu_tree.specs.PlainTree as plain
 use Rattle.scope_shapes.specs.declared.error.ShapeKind.TheVariants.{NamedTwice, NoMain, MainKind}
-use Rattle.scope_shapes.specs.Faults.{Check, fault, ◌>>=◌}
+use Rattle.scope_shapes.specs.Faults.{Check, fault}
 use Rattle.scope_shapes.specs.Names.{Table, Types, added, place}
 use Rattle.scope_shapes.specs.Headers.{Header, Functions, header, headers, is_entry, is_int, odd_parameter, odd_main, main_number}
-use Rattle.scope_shapes.proofs.ShapedLists.{Then, then_ok, ok_same, unless_ok, all_with, all_at}
+use Rattle.scope_shapes.proofs.ShapedLists.{then_ok, ok_same, unless_ok, all_with, all_at}
 use Rattle.scope_shapes.proofs.ShapedQuantifiers.{Fits}
 use Rattle.scope_shapes.proofs.ShapedHeaders.{IsHeader, header_is}
 

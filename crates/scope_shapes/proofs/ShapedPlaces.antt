@@ -1,5 +1,5 @@
 -- What the locals of a body promise at a place of its core, and how they grow.
-use Rattle.std.proofs.Common.{◌≡◌, sym, ap, subst, ℕ, zero, suc, ◌+◌, ◌-◌, ◌<◌, ◌≤◌, Bool, true, false, List, [], ◌∷◌, ◌++◌, length, map, Option, Some, None, Ok, refl, arith, ◌∙◌, ◌⊎◌, inl, inr, append_assoc}
+use Rattle.std.proofs.Common.{◌≡◌, sym, ap, subst, ℕ, zero, suc, ◌+◌, ◌<◌, List, [], ◌∷◌, ◌++◌, length, Some, Ok, refl, arith, ◌∙◌, inl, inr, append_assoc}
 use Rattle.std.specs.Prelude.{slice_get, unwrap_or}
 use Rattle.std.specs.List.{AllByRecursion, AllZip, range_with_len}
 use Rattle.xanadu_tree.specs.declared.types.CoreTy.{CoreTy}
@@ -8,14 +8,13 @@ use Rattle.xanadu_tree.specs.declared.types.Kind.TheVariants as kind
 use Rattle.xanadu_tree.specs.declared.types.Packing.{Packing}
 use Rattle.xanadu_tree.specs.declared.tree.declaration.Identifier.{Identifier}
 use Rattle.xanadu_tree.specs.KindRules.{kind_of, IsValue, IsAmong}
-use Rattle.xanadu_tree.specs.BodyRules.{Point, declaring, IsSplit, behind_block as behind}
+use Rattle.xanadu_tree.specs.BodyRules.{Point, declaring, behind_block as behind}
 use Rattle.scope_shapes.specs.declared.error.ShapeKind.TheVariants.{NamedTwice}
-use Rattle.scope_shapes.specs.Faults.{Check, ◌>>=◌}
 use Rattle.scope_shapes.specs.Kinds.{kind_at}
-use Rattle.scope_shapes.specs.Names.{Scope, first}
-use Rattle.scope_shapes.specs.Sites.{Globals, Locals, declared, new_variable, behind_block, without, variable_kind}
+use Rattle.scope_shapes.specs.Names.{first}
+use Rattle.scope_shapes.specs.Sites.{Locals, declared, new_variable, behind_block, without, variable_kind}
 use Rattle.scope_shapes.specs.Statements.{split_names}
-use Rattle.scope_shapes.proofs.ShapedLists.{Then, then_ok, ok_same, unless_ok, all_weaker, all_with, all_at, Begins, begins_same, begins_with, begins_through, begins_get, Ends, ends_same, ends_with, ends_through, ends_left, length_both}
+use Rattle.scope_shapes.proofs.ShapedLists.{then_ok, ok_same, unless_ok, all_weaker, all_with, all_at, Begins, begins_same, begins_with, begins_through, begins_get, Ends, ends_same, ends_with, ends_through, ends_left, length_both}
 use Rattle.scope_shapes.proofs.ShapedForms.{Known}
 use Rattle.scope_shapes.proofs.ShapedKinds.{IsKind}
 use Rattle.scope_shapes.proofs.ShapedExpressions.{Seen, Sees, at_place}
@@ -73,7 +72,7 @@ seen_one P locals kinds visible x good begins v =
 pub sees : (P : List Packing) (locals : Locals) (point : Point) (kinds : List Kind) → Stands P locals point → Begins locals.kinds kinds → Sees P locals kinds point.visible
 sees P locals point kinds s begins =
     all_weaker (λ e. IsVariable point.visible locals.kinds e.1) (λ e. Seen P locals kinds point.visible e.1)
-      (λ e. seen_one P locals kinds point.visible e.1 s.good begins) locals.variables s.names
+    (λ e. seen_one P locals kinds point.visible e.1 s.good begins) locals.variables s.names
 
 -- ---- declarations
 
@@ -96,12 +95,16 @@ pub declared_stands : (P : List Packing) (name : Identifier) (k : Kind) (locals 
     → Stands P (declared name k locals).1 (declaring (suc n) point)
 unfolding declared
 declared_stands P name k locals point n good s = record {
-  names = (record { among = among_last point.variables n point.visible (length locals.kinds) (omega (arith, s.variables));
-                    below = omega (arith, length_both locals.kinds (k ∷ [])) },
+  names = (
+    record {
+      among = among_last point.variables n point.visible (length locals.kinds) (omega (arith, s.variables));
+      below = omega (arith, length_both locals.kinds (k ∷ []));
+    },
     all_weaker (λ e. IsVariable (range_with_len point.variables n ++ point.visible) locals.kinds e.1)
-      (λ e. IsVariable (range_with_len point.variables (suc n) ++ point.visible) (locals.kinds ++ (k ∷ [])) e.1)
-      (λ e h. record { among = among_more point.variables n point.visible e.1 h.among; below = omega (arith, length_both locals.kinds (k ∷ []), h.below) })
-      locals.variables s.names);
+        (λ e. IsVariable (range_with_len point.variables (suc n) ++ point.visible) (locals.kinds ++ (k ∷ [])) e.1)
+        (λ e h. record { among = among_more point.variables n point.visible e.1 h.among; below = omega (arith, length_both locals.kinds (k ∷ []), h.below) })
+        locals.variables s.names,
+  );
   good = all_with (IsGood P) locals.kinds k s.good good;
   variables = omega (arith, s.variables, length_both locals.kinds (k ∷ []));
   known = s.known;
@@ -178,7 +181,7 @@ split_are P point [] front [] parts start numbers locals y is n good f e =
     let same = ok_same (numbers, locals) y e in
     let all : parts ≡ front = is ∙ append_none front in
     subst (Splits P point parts start) same (subst (λ ts. Splits P point ts start (numbers, locals)) (sym all)
-      (record { next = f.next; stands = f.stands; grows = f.grows; has = f.has }))
+    (record { next = f.next; stands = f.stands; grows = f.grows; has = f.has }))
   where
     append_none : (xs : List CoreTy) → xs ++ [] ≡ xs
     append_none [] = refl
@@ -206,7 +209,7 @@ block_stands P outer inner before after o i g =
     let indices = ends_left outer.indices inner.indices g.indices in
     record {
       names = subst (AllByRecursion (λ e. IsVariable before.visible inner.kinds e.1)) (sym variables)
-        (all_weaker (λ e. IsVariable before.visible outer.kinds e.1) (λ e. IsVariable before.visible inner.kinds e.1)
+          (all_weaker (λ e. IsVariable before.visible outer.kinds e.1) (λ e. IsVariable before.visible inner.kinds e.1)
           (λ e h. record { among = h.among; below = longer e.1 h.below }) outer.variables o.names);
       good = i.good;
       variables = i.variables;

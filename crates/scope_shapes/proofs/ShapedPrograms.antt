@@ -1,5 +1,5 @@
 -- The core of a tree keeps the rules of a core.
-use Rattle.std.proofs.Common.{◌≡◌, sym, ap, subst, ℕ, zero, suc, ◌+◌, ◌<◌, ◌≤◌, Bool, true, false, List, [], ◌∷◌, ◌++◌, length, map, take, Option, Some, None, Ok, refl, arith, ◌∙◌, ◌⊎◌, inl, inr, append_assoc, append-nil}
+use Rattle.std.proofs.Common.{◌≡◌, sym, ap, subst, ℕ, zero, suc, ◌+◌, ◌<◌, ◌≤◌, false, List, [], ◌∷◌, ◌++◌, length, map, take, Some, Ok, refl, arith, ◌∙◌, ◌⊎◌, inl, inr, append_assoc, append-nil}
 use Rattle.std.specs.Prelude.{slice_get, cond, codes}
 use Rattle.std.proofs.lemmas.Option.{same_Some}
 use Rattle.std.specs.List.{AllByRecursion, AllZip, range_with_len}
@@ -11,28 +11,27 @@ use Rattle.xanadu_tree.specs.declared.types.Kind.{Kind}
 use Rattle.xanadu_tree.specs.declared.types.Kind.TheVariants as kind
 use Rattle.xanadu_tree.specs.declared.types.Packing.{Packing}
 use Rattle.xanadu_tree.specs.IndexRules.{Stretch, stretch_of}
-use Rattle.xanadu_tree.specs.KindRules.{kind_of, IsValue, IsAmong, result_kind, gives_value, Header as Called, header as core_header, Setting}
-use Rattle.xanadu_tree.specs.BodyRules.{IsType, Point, AreStatements, completes_all, behind_block as behind}
-use Rattle.xanadu_tree.specs.Shaped.{no_index, no_variables, IsPacking, setting, body_start, IsFunction, IsNamed, HaveNames, IsArgument, IsMain, Shaped}
+use Rattle.xanadu_tree.specs.KindRules.{kind_of, IsValue, IsAmong, result_kind, gives_value, Header as Called, header as core_header}
+use Rattle.xanadu_tree.specs.BodyRules.{IsType, Point, AreStatements, completes_all}
+use Rattle.xanadu_tree.specs.Shaped.{no_index, no_variables, IsFunction, IsNamed, HaveNames, IsArgument, IsMain, Shaped}
 use Rattle.xanadu_tree.specs.Plain as core
 use Rattle.xanadu_tree.specs.PlainOf.{to_stmts}
 use Rattle.xanadu_tree.specs.PlainTree as plain
 use Rattle.xanadu_tree.specs.Written.{IsWritten}
 use Rattle.xanadu_tree.proofs.ShapedReturns.{none_give, one_give}
 use Rattle.scope_shapes.specs.declared.error.ShapeKind.TheVariants.{Completes}
-use Rattle.scope_shapes.specs.Faults.{Check, ◌>>=◌}
 use Rattle.scope_shapes.specs.Names.{Scope, no_types}
-use Rattle.scope_shapes.specs.Headers.{Header, Functions, no_functions, type_names, packings, headers, main_number}
-use Rattle.scope_shapes.specs.Sites.{Globals, Locals}
-use Rattle.scope_shapes.specs.Statements.{Body, block}
+use Rattle.scope_shapes.specs.Headers.{Header, no_functions, type_names, packings, headers, main_number}
+use Rattle.scope_shapes.specs.Sites.{Globals}
+use Rattle.scope_shapes.specs.Statements.{block}
 use Rattle.scope_shapes.specs.Shape.{parameter_names, entry, Inner, inner, inners, fun, funs, globals, shape}
-use Rattle.scope_shapes.proofs.ShapedLists.{Then, then_ok, ok_same, unless_ok, all_map, all_at, all_weaker, Begins}
+use Rattle.scope_shapes.proofs.ShapedLists.{then_ok, ok_same, unless_ok, all_at, all_weaker, Begins}
 use Rattle.scope_shapes.proofs.ShapedTypes.{types_fit, packings_are}
-use Rattle.scope_shapes.proofs.ShapedHeaders.{IsGiven, IsHeader, kind_is_value}
+use Rattle.scope_shapes.proofs.ShapedHeaders.{IsHeader, kind_is_value}
 use Rattle.scope_shapes.proofs.ShapedKinds.{IsKind, kind_of_type}
 use Rattle.scope_shapes.proofs.ShapedExpressions.{Knows, site, seen_header}
 use Rattle.scope_shapes.proofs.ShapedPlaces.{IsVariable, IsGood, Stands}
-use Rattle.scope_shapes.proofs.ShapedBodies.{Blocks, block_is}
+use Rattle.scope_shapes.proofs.ShapedBodies.{block_is}
 use Rattle.scope_shapes.proofs.ShapedNames.{names_lower, IsIn, AllDiffer, name_of, IsTable, headers_are, IsMainHeader, main_is}
 
 -- ---- where a body begins
@@ -43,6 +42,7 @@ among_range low (suc n) x above below = by (first_or_later x low above) (λ late
   where
     first_or_later : (y l : ℕ) → l ≤ y → (y ≡ l) ⊎ (l + 1 ≤ y)
     first_or_later y l above = grind arith
+
     by : (x ≡ low) ⊎ (low + 1 ≤ x) → (low + 1 ≤ x → IsAmong (range_with_len (low + 1) n) x) → IsAmong (range_with_len low (suc n)) x
     by (inl same) later = inl same
     by (inr above) later = inr (later above)
@@ -53,7 +53,7 @@ unfolding parameter_names
 parameters_stand n ks [] number scope same le stand = stand
 parameters_stand n ks (p ∷ ps) number scope same le stand =
     parameters_stand n ks ps (number + 1) _ same (omega (arith, le))
-      (record { among = among_range 0 n number (omega arith) (omega (arith, le)); below = omega (arith, le, same) }, stand)
+    (record { among = among_range 0 n number (omega arith) (omega (arith, le)); below = omega (arith, le, same) }, stand)
 
 abbrev start_point : Header → Point
 start_point h = record {
@@ -148,10 +148,10 @@ function_is globals heads h b same lower is body =
       result_quantified = is.given.quantified;
       unit = λ unit. when_unit is.given.which (sym gives ∙ unit);
       param_kinds = ap (take (length h.params)) body.begins.is
-        ∙ ap (λ n. take n (map kind_of h.params ++ body.begins.rest)) (sym (length-map h.params kind_of)) ∙ take_front (map kind_of h.params) body.begins.rest;
+          ∙ ap (λ n. take n (map kind_of h.params ++ body.begins.rest)) (sym (length-map h.params kind_of)) ∙ take_front (map kind_of h.params) body.begins.rest;
       end = body.after;
       body = subst (λ hs. AreStatements (record { types = globals.packings; headers = hs; kinds = b.kinds; result = cond (gives_value (to_stmts b.stmts)) (kind_of h.given.ty) kind.Unit }) (start_point h) (to_stmts b.stmts) body.after) (sym same)
-        (subst (λ k. AreStatements (site globals b.kinds k) (start_point h) (to_stmts b.stmts) body.after) (sym gives) body.are);
+          (subst (λ k. AreStatements (site globals b.kinds k) (start_point h) (to_stmts b.stmts) body.after) (sym gives) body.are);
       variables = body.variables;
       returns = body.returns;
     }
@@ -270,7 +270,7 @@ globals_are tree g written e =
     let fits = types_fit tree.declarations t.value p.value written.grammar t.first p.first in
     let are = packings_are p.value t.value tree.declarations [] p.value fits written.grammar tt p.first in
     let table = headers_are p.value t.value tree.declarations no_functions f.value fits (names_lower tree.declarations written.tokens)
-          (record { names = refl; differ = tt; lower = tt; headers = tt }) f.first in
+    (record { names = refl; differ = tt; lower = tt; headers = tt }) f.first in
     subst Program (ok_same (record { types = t.value; packings = p.value; functions = f.value }) g f.second) (record {
       knows = record { fits = fits; packings = are; headers = all_weaker (IsHeader p.value) (λ h. IsKind p.value h.given.kind) (given_kind p.value) f.value.headers table.headers };
       table = table;
@@ -301,5 +301,5 @@ shape_is_shaped tree end y written e =
     let z = inners_are g.value g.value.functions.headers [] b.value b.first in
     let zip = subst (AllZip (InnerOf g.value) g.value.functions.headers) (sym z.is) z.zip in
     subst Shaped (ok_same (record { types = g.value.packings; funs = funs g.value.functions.headers b.value []; main = m.value }) y b.second)
-      (subst (λ fs. Shaped (record { types = g.value.packings; funs = fs; main = m.value })) (sym (funs_are g.value.functions.headers b.value []))
-        (program_is g.value b.value m.value p (main_is g.value.packings g.value.functions end m.value p.table m.first) zip))
+    (subst (λ fs. Shaped (record { types = g.value.packings; funs = fs; main = m.value })) (sym (funs_are g.value.functions.headers b.value []))
+    (program_is g.value b.value m.value p (main_is g.value.packings g.value.functions end m.value p.table m.first) zip))

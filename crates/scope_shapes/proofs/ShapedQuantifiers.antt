@@ -1,13 +1,11 @@
 -- Types that are read under a quantifier are types, and the quantifier's variables are told by them.
-use Rattle.std.proofs.Common.{◌≡◌, ◌≢◌, sym, ap, subst, ℕ, zero, suc, ℤ, pos, ◌+◌, ◌-◌, ◌<◌, ◌≤◌, Bool, true, false, List, [], ◌∷◌, ◌++◌, length, map, get_or, Option, Some, None, Ok, refl, arith, ◌∙◌, ◌⊎◌, inl, inr}
-use Rattle.std.specs.Prelude.{cond, ◌&&◌, ◌||◌, if◌then◌else◌, position, bytes_eq, unwrap_or, slice_get}
-use Rattle.std.specs.List.{AllByRecursion, list_any}
-use Rattle.std.specs.BTreeMap.{is_at}
+use Rattle.std.proofs.Common.{◌≡◌, sym, ap, subst, ℕ, suc, ℤ, pos, ◌+◌, ◌-◌, ◌<◌, ◌≤◌, Bool, true, false, List, [], ◌∷◌, ◌++◌, length, get_or, Option, Some, None, Ok, refl, arith, ◌∙◌, ◌⊎◌, inl, inr}
+use Rattle.std.specs.Prelude.{◌&&◌, if◌then◌else◌, bytes_eq, unwrap_or, slice_get}
+use Rattle.std.specs.List.{AllByRecursion}
 use Rattle.std.specs.BTreeSet.{insert_key}
 use Rattle.std.specs.declared.cmp.Ordering.{Ordering}
 use Rattle.std.specs.declared.cmp.Ordering.TheVariants.{Less, Equal, Greater}
-use Rattle.std.specs.Ordering.{nat_cmp, int_eq, is_eq, match_ordering, MatchOrdering}
-use Rattle.std.proofs.lemmas.Cmp.{ranked}
+use Rattle.std.specs.Ordering.{nat_cmp, int_eq, match_ordering}
 use Rattle.std.proofs.lemmas.Option.{same_Some, unwrap_or-slice_get}
 use Rattle.std.proofs.lemmas.Bool.Decides.{Decides-int_eq}
 use Rattle.std.specs.Bool.{Decides}
@@ -17,7 +15,6 @@ use Rattle.xanadu_tree.specs.declared.types.CoreTy.{CoreTy}
 use Rattle.xanadu_tree.specs.declared.types.CoreTy.TheVariants as ty
 use Rattle.xanadu_tree.specs.declared.types.Kind.{Kind}
 use Rattle.xanadu_tree.specs.declared.types.Packing.{Packing}
-use Rattle.xanadu_tree.specs.declared.types.Quant.{Quant}
 use Rattle.xanadu_tree.specs.declared.tree.declaration.Identifier.{Identifier}
 use Rattle.xanadu_tree.specs.declared.tree.index.Binder.{Binder}
 use Rattle.xanadu_tree.specs.declared.tree.index.Sort.{Sort}
@@ -25,16 +22,16 @@ use Rattle.xanadu_tree.specs.declared.tree.index.Sort.TheVariants as sort
 use Rattle.xanadu_tree.specs.declared.tree.index.Sign.TheVariants.{Plus}
 use Rattle.xanadu_tree.specs.declared.tree.types.Element.{Element}
 use Rattle.xanadu_tree.specs.declared.tree.types.Element.TheVariants as element
-use Rattle.xanadu_tree.specs.IndexRules.{Stretch, IsWithin, Reaches, IsForm, IsQuantified, Tells, SomeTells, variable_form as variable_alone}
+use Rattle.xanadu_tree.specs.IndexRules.{Stretch, Reaches, IsForm, Tells, SomeTells, variable_form as variable_alone}
 use Rattle.xanadu_tree.specs.KindRules.{cell_kind, tuple_type as tuple_packing}
 use Rattle.xanadu_tree.specs.BodyRules.{IsType}
 use Rattle.xanadu_tree.specs.PlainTree as plain
-use Rattle.scope_shapes.specs.Faults.{Check, ◌>>=◌}
-use Rattle.scope_shapes.specs.Linears.{Form, constant_form, linear, variable_form, lone, index_in, relations_in}
+use Rattle.scope_shapes.specs.Faults.{◌>>=◌}
+use Rattle.scope_shapes.specs.Linears.{constant_form, linear, variable_form, lone, index_in, relations_in}
 use Rattle.scope_shapes.specs.Names.{Scope, meaning, place, or_unknown, Types, type_number, tuple_type}
-use Rattle.scope_shapes.specs.Quantifiers.{Frame, empty_frame, sort_rows, with_variable, is_from, bind, opened, noted, index, element_number, length_of, type_in, types_in, unindexed, quant, closed}
+use Rattle.scope_shapes.specs.Quantifiers.{Frame, empty_frame, sort_rows, with_variable, is_from, bind, opened, noted, index, element_number, length_of, type_in}
 use Rattle.scope_shapes.proofs.ShapedForms.{Known, AreForms, constant_keeps, index_keeps, linear_is, relations_are, known_name}
-use Rattle.scope_shapes.proofs.ShapedLists.{Then, then_ok, ok_same, unless_ok, where_ok, all_weaker, all_append, all_with}
+use Rattle.scope_shapes.proofs.ShapedLists.{then_ok, ok_same, unless_ok, where_ok, all_weaker, all_with}
 
 -- ---- the quantifier of a frame, as far as it has come
 
@@ -94,7 +91,7 @@ with_variable_rows : (around : List Stretch) (kind : Sort) (frame : Frame) → f
     → AreForms (own (with_variable kind frame) ∷ around) (sort_rows kind frame.next frame.rows)
 with_variable_rows around kind frame low are =
     sort_rows_are _ kind frame.next frame.rows (next_within around kind frame low)
-      (rows_wider around frame (with_variable kind frame) low (with_variable_wider kind frame) frame.rows are)
+    (rows_wider around frame (with_variable kind frame) low (with_variable_wider kind frame) frame.rows are)
 
 bound_opens : (around : List Stretch) (b : Binder) (frame : Frame) (scope : Scope) → Opens around frame scope
     → Opens around (with_variable b.sort frame) ((b.name.name, frame.next) ∷ scope)
@@ -102,8 +99,10 @@ unfolding with_variable
 bound_opens around b frame scope o = record {
   low = omega (arith, o.low);
   rows = with_variable_rows around b.sort frame o.low o.rows;
-  known = (next_within around b.sort frame o.low,
-    known_wider (own frame ∷ around) (own (with_variable b.sort frame) ∷ around) (reach_wider around frame (with_variable b.sort frame) o.low (with_variable_wider b.sort frame)) scope o.known);
+  known = (
+    next_within around b.sort frame o.low,
+    known_wider (own frame ∷ around) (own (with_variable b.sort frame) ∷ around) (reach_wider around frame (with_variable b.sort frame) o.low (with_variable_wider b.sort frame)) scope o.known,
+  );
   none = o.none;
 }
 
@@ -147,15 +146,15 @@ pub opened_opens : (around : List Stretch) (q : Option plain.Quantifier) (first 
 unfolding opened
 opened_opens around None first scope y known e =
     subst (λ z. Bound around 0 (empty_frame first) z scope) (ok_same (empty_frame first, scope) y e)
-      (record { opens = empty_opens around first scope known; first = refl; next = omega arith })
+    (record { opens = empty_opens around first scope known; first = refl; next = omega arith })
 opened_opens around (Some q) first scope y known e =
     let s = then_ok (bind q.binders (empty_frame first) scope)
-          (λ z. relations_in z.1 q.relations z.0.rows >>= (λ rows. Ok (record z.0 { rows = rows }, z.1))) y e in
+    (λ z. relations_in z.1 q.relations z.0.rows >>= (λ rows. Ok (record z.0 { rows = rows }, z.1))) y e in
     let t = then_ok (relations_in s.value.1 q.relations s.value.0.rows) (λ rows. Ok (record s.value.0 { rows = rows }, s.value.1)) y s.second in
     let b = bind_opens around q.binders (empty_frame first) scope s.value (empty_opens around first scope known) s.first in
     let are = relations_are _ s.value.1 q.relations _ t.value b.opens.known b.opens.rows t.first in
     subst (λ z. Bound around (length q.binders) (empty_frame first) z scope) (ok_same (record s.value.0 { rows = t.value }, s.value.1) y t.second)
-      (record { opens = with_rows around s.value.0 s.value.1 t.value b.opens are; first = b.first; next = b.next })
+    (record { opens = with_rows around s.value.0 s.value.1 t.value b.opens are; first = b.first; next = b.next })
 
 -- ---- what is known of declared types while they are read: those of these numbers are there
 
@@ -204,7 +203,7 @@ tuple_number_is types P name number fits e =
     let w = where_ok (unwrap_or (slice_get types.tuples (s.value - 2)) false) _ _ (Ok s.value) number s.second in
     let at : s.value - 2 ≡ n.place = omega (arith, n.is) in
     let flag : get_or types.tuples n.place false ≡ true =
-          sym (unwrap_or-slice_get types.tuples n.place false) ∙ sym (ap (λ k. unwrap_or (slice_get types.tuples k) false) at) ∙ w.0 in
+    sym (unwrap_or-slice_get types.tuples n.place false) ∙ sym (ap (λ k. unwrap_or (slice_get types.tuples k) false) at) ∙ w.0 in
     let it = fits.tuples n.place n.within flag in
     (it.0, ap (tuple_packing P) (sym (ok_same s.value number w.1) ∙ n.is) ∙ it.1)
 
@@ -312,14 +311,14 @@ noted_are : (made : List CoreTy) (form : Linear) (o : Option ℕ) (indices : Lis
 noted_are made form None indices is h = all_weaker (λ v. SomeTells v made) (λ v. SomeTells v made ⊎ (form ≡ variable_alone v)) (λ v k. inl k) indices h
 noted_are made form (Some v) indices is h =
     all_insert_key (λ w. SomeTells w made ⊎ (form ≡ variable_alone w)) indices v
-      (all_weaker (λ w. SomeTells w made) (λ w. SomeTells w made ⊎ (form ≡ variable_alone w)) (λ w k. inl k) indices h) (inr (is v refl))
+    (all_weaker (λ w. SomeTells w made) (λ w. SomeTells w made ⊎ (form ≡ variable_alone w)) (λ w k. inl k) indices h) (inr (is v refl))
 
 index_size : (P : List Packing) (around : List Stretch) (frame : Frame) (scope : Scope) (made : List CoreTy) (bare_from : ℕ) (x : plain.IndexExpression)
     (y : Linear × Frame) → Frames P around frame scope made bare_from → index scope x frame ≡ Ok y → Sized around frame made y.0 y.1
 unfolding index
 index_size P around frame scope made bare_from x y f e =
     let s = then_ok (index_in scope Plus x (constant_form (pos 0)))
-          (λ form. Ok (linear form, record frame { indices = noted (lone (linear form).terms (linear form).constant) frame.indices })) y e in
+    (λ form. Ok (linear form, record frame { indices = noted (lone (linear form).terms (linear form).constant) frame.indices })) y e in
     subst (λ z. Sized around frame made z.0 z.1) (ok_same _ y s.second) (record {
       wider = record { first = refl; next = omega arith };
       rows = f.rows;
@@ -366,20 +365,20 @@ pub type_is : (P : List Packing) (around : List Stretch) (types : Types) (frame 
 unfolding type_in
 type_is P around types frame scope made bare_from (plain.Int at) y fits f e =
     subst (λ z. Typed P around frame scope (made ++ (z.0 ∷ [])) bare_from z.1) (ok_same (ty.Int (variable_form frame.next), with_variable sort.Int frame) y e)
-      (sized_type P around frame scope made bare_from _ _ _ f (bare_size P around frame scope made bare_from sort.Int f) (λ is. is) (λ v is. is))
+    (sized_type P around frame scope made bare_from _ _ _ f (bare_size P around frame scope made bare_from sort.Int f) (λ is. is) (λ v is. is))
 type_is P around types frame scope made bare_from (plain.IntOf x at) y fits f e =
     let s = then_ok (index scope x frame) (λ z. Ok (ty.Int z.0, z.1)) y e in
     subst (λ z. Typed P around frame scope (made ++ (z.0 ∷ [])) bare_from z.1) (ok_same (ty.Int s.value.0, s.value.1) y s.second)
-      (sized_type P around frame scope made bare_from _ _ _ f (index_size P around frame scope made bare_from x s.value f s.first) (λ is. is) (λ v is. is))
+    (sized_type P around frame scope made bare_from _ _ _ f (index_size P around frame scope made bare_from x s.value f s.first) (λ is. is) (λ v is. is))
 type_is P around types frame scope made bare_from (plain.Bool at) y fits f e =
     subst (λ z. Typed P around frame scope (made ++ (z.0 ∷ [])) bare_from z.1) (ok_same (ty.Bool, frame) y e) (plain_type P around frame scope made bare_from ty.Bool f tt)
 type_is P around types frame scope made bare_from (plain.Named name) y fits f e =
     let s = then_ok (tuple_type types name) (λ number. Ok (ty.Named number, frame)) y e in
     subst (λ z. Typed P around frame scope (made ++ (z.0 ∷ [])) bare_from z.1) (ok_same (ty.Named s.value, frame) y s.second)
-      (plain_type P around frame scope made bare_from (ty.Named s.value) f (tuple_number_is types P name s.value fits s.first))
+    (plain_type P around frame scope made bare_from (ty.Named s.value) f (tuple_number_is types P name s.value fits s.first))
 type_is P around types frame scope made bare_from (plain.Array cell size) y fits f e =
     let s = then_ok (element_number types cell) (λ number. length_of scope size frame >>= (λ z. Ok (ty.Array number z.0, z.1))) y e in
     let t = then_ok (length_of scope size frame) (λ z. Ok (ty.Array s.value z.0, z.1)) y s.second in
     subst (λ z. Typed P around frame scope (made ++ (z.0 ∷ [])) bare_from z.1) (ok_same (ty.Array s.value t.value.0, t.value.1) y t.second)
-      (sized_type P around frame scope made bare_from _ _ _ f (length_size P around frame scope made bare_from size t.value f t.first)
-        (λ is. (element_is types P cell s.value fits s.first, is)) (λ v is. is))
+    (sized_type P around frame scope made bare_from _ _ _ f (length_size P around frame scope made bare_from size t.value f t.first)
+    (λ is. (element_is types P cell s.value fits s.first, is)) (λ v is. is))

@@ -1,35 +1,31 @@
 -- Each statement that is read keeps the rules of a core: one case for each form.
-use Rattle.std.proofs.Common.{◌≡◌, sym, ap, subst, ℕ, zero, suc, ◌+◌, Bool, true, false, List, [], ◌∷◌, ◌++◌, length, map, Option, Some, None, Ok, refl, arith, ◌∙◌, ◌⊎◌, inl, inr}
-use Rattle.std.specs.Prelude.{slice_get, is_some, ◌||◌, if◌then◌else◌}
+use Rattle.std.proofs.Common.{◌≡◌, sym, ap, subst, ℕ, true, List, [], ◌∷◌, length, Option, Some, None, Ok, refl, ◌∙◌, inl, inr}
+use Rattle.std.specs.Prelude.{slice_get, is_some}
 use Rattle.std.specs.List.{AllByRecursion}
 use Rattle.xanadu_tree.specs.declared.types.CoreTy.{CoreTy}
 use Rattle.xanadu_tree.specs.declared.types.Kind.{Kind}
 use Rattle.xanadu_tree.specs.declared.types.Kind.TheVariants as kind
-use Rattle.xanadu_tree.specs.declared.types.Packing.{Packing}
 use Rattle.xanadu_tree.specs.declared.tree.declaration.Identifier.{Identifier}
 use Rattle.xanadu_tree.specs.IndexRules.{Stretch}
-use Rattle.xanadu_tree.specs.KindRules.{kind_of, IsValue, Setting, HasKind, IsTest}
-use Rattle.xanadu_tree.specs.BodyRules.{IsType, Point, declaring, behind_block as behind, completes, completes_all, MayFollow, IsCall, IsStatement, AreStatements}
+use Rattle.xanadu_tree.specs.KindRules.{kind_of, IsValue, Setting, HasKind}
+use Rattle.xanadu_tree.specs.BodyRules.{IsType, Point, declaring, completes, IsCall, IsStatement}
 use Rattle.xanadu_tree.specs.Plain as core
-use Rattle.xanadu_tree.specs.PlainOf.{to_stmts}
 use Rattle.xanadu_tree.specs.PlainTree as plain
 use Rattle.xanadu_tree.specs.Written.{expression_at}
-use Rattle.scope_shapes.specs.declared.error.ShapeKind.TheVariants.{NamedTwice, Unreachable}
+use Rattle.scope_shapes.specs.declared.error.ShapeKind.TheVariants.{NamedTwice}
 use Rattle.scope_shapes.specs.Faults.{Check, ◌>>=◌}
-use Rattle.scope_shapes.specs.Kinds.{kind_at, element_kind, parts_of}
+use Rattle.scope_shapes.specs.Kinds.{element_kind, parts_of}
 use Rattle.scope_shapes.specs.Names.{meaning, or_unknown}
-use Rattle.scope_shapes.specs.Sites.{Globals, Locals, Typed, variable, variable_kind, declared, behind_block, asked, asked_array, asked_tuple, asked_value}
-use Rattle.scope_shapes.specs.Expressions.{cell, call, count, expression, indexed, primary, test, arguments}
-use Rattle.scope_shapes.specs.Statements.{clause_or_none, Done, goes_on, ends, declare, split_names, parts_for, split, stored, assign, called, printed, return_none, return_value, returned, Body, empty, and_then, choice, loop, statement, branch, block, statements, statement_at}
+use Rattle.scope_shapes.specs.Sites.{Globals, Locals, Typed, variable, variable_kind, declared, asked, asked_array, asked_tuple, asked_value}
+use Rattle.scope_shapes.specs.Expressions.{cell, call, count, expression, indexed, primary, arguments}
+use Rattle.scope_shapes.specs.Statements.{Done, goes_on, ends, declare, split_names, parts_for, split, stored, assign, called, printed, return_none, return_value, returned}
 use Rattle.scope_shapes.specs.Sites.{called as callee}
-use Rattle.scope_shapes.proofs.ShapedLists.{Then, then_ok, ok_same, unless_ok, where_ok, Begins, begins_same, begins_through, begins_get}
-use Rattle.scope_shapes.proofs.ShapedKinds.{IsKind, kind_of_type, asked_is, asked_array_is, asked_tuple_is, asked_value_is, counted_is, cell_is_value, tuple_is}
+use Rattle.scope_shapes.proofs.ShapedLists.{then_ok, ok_same, unless_ok, Begins, begins_same, begins_through, begins_get}
+use Rattle.scope_shapes.proofs.ShapedKinds.{IsKind, kind_of_type, asked_is, asked_tuple_is, asked_value_is, counted_is, tuple_is}
 use Rattle.scope_shapes.proofs.ShapedExpressions.{Knows, site, Sees, Has, variable_is}
 use Rattle.scope_shapes.proofs.ShapedOperands.{expression_is, indexed_is, primary_is}
-use Rattle.scope_shapes.proofs.ShapedTests.{test_is}
 use Rattle.scope_shapes.proofs.ShapedHeaders.{kind_is_value}
-use Rattle.scope_shapes.proofs.ShapedPlaces.{IsGood, Stands, Grows, grows_same, grows_through, sees, declared_stands, declared_grows, declared_kind, declaring_none, Splits, split_are, front_none, block_stands, block_grows}
-use Rattle.scope_shapes.proofs.ShapedClauses.{Clauses, clause_or_none_is}
+use Rattle.scope_shapes.proofs.ShapedPlaces.{IsGood, Stands, Grows, grows_same, sees, declared_stands, declared_grows, declared_kind, declaring_none, Splits, split_are, front_none}
 
 -- from locals before a statement to those behind it
 pub record Moves (globals : Globals) (given : Kind) (locals : Locals) (point : Point) (done : Done) (more : Locals) : Type 0 where
@@ -84,12 +80,17 @@ declare_is globals given locals point name value y knows st e =
       stands = declared_stands globals.packings name t.value locals point 0 good (declaring_none globals.packings locals point st);
       grows = declared_grows name t.value locals;
       is = λ kinds begins.
-        let earlier = begins_through locals.kinds (declared name t.value locals).1.kinds kinds (declared_grows name t.value locals).kinds begins in
-        let h = has kinds earlier in
-        (t.value, subst (HasKind (site globals kinds given) point.visible s.value.expr) v.0 h.has, good.0,
-          begins_get _ kinds _ t.value begins new.1, inr (new.0 ∙ sym st.variables, refl));
+          let earlier = begins_through locals.kinds (declared name t.value locals).1.kinds kinds (declared_grows name t.value locals).kinds begins in
+          let h = has kinds earlier in (
+            t.value,
+            subst (HasKind (site globals kinds given) point.visible s.value.expr) v.0 h.has,
+            good.0,
+            begins_get _ kinds _ t.value begins new.1,
+            inr (new.0 ∙ sym st.variables, refl),
+          );
       completes = refl;
     })
+
 pub split_is : (globals : Globals) (given : Kind) (locals : Locals) (point : Point) (names : List Identifier) (value : plain.Expression) (at : ℕ) (y : Done × Locals) → Knows globals
     → Stands globals.packings locals point → split globals names value at locals ≡ Ok y → Moves globals given locals point y.0 y.1
 unfolding split IsStatement
@@ -107,16 +108,20 @@ split_is globals given locals point names value at y knows st e =
     let c = counted_is at (length (parts_of globals.packings t.value)) (length names) (parts_of globals.packings t.value) p.value p.first in
     let parts : p.value ≡ tuple.0.parts = sym c.1 ∙ known.0 in
     let splits = split_are globals.packings point names [] tuple.0.parts p.value locals [] locals n.value parts
-          (sym c.0 ∙ ap length known.0) (parts_good tuple.0.parts _ packing.parts) (front_none globals.packings point locals st) n.first in
+    (sym c.0 ∙ ap length known.0) (parts_good tuple.0.parts _ packing.parts) (front_none globals.packings point locals st) n.first in
     let same = subst (λ ts. Splits globals.packings point ts locals n.value) parts splits in
     subst (λ z. Moves globals given locals point z.0 z.1) (ok_same (goes_on (core.Split n.value.0 s.value.expr at), n.value.1) y n.second) (record {
       after = declaring (length tuple.0.parts) point;
       stands = same.stands;
       grows = same.grows;
       is = λ kinds begins.
-        let h = has kinds (begins_through locals.kinds n.value.1.kinds kinds same.grows.kinds begins) in
-        (t.value, tuple.0, subst (HasKind (site globals kinds given) point.visible s.value.expr) is_tuple h.has, tuple.1,
-          record { next = same.next; kinds = same.has kinds begins; behind = refl });
+          let h = has kinds (begins_through locals.kinds n.value.1.kinds kinds same.grows.kinds begins) in (
+            t.value,
+            tuple.0,
+            subst (HasKind (site globals kinds given) point.visible s.value.expr) is_tuple h.has,
+            tuple.1,
+            record { next = same.next; kinds = same.has kinds begins; behind = refl },
+          );
       completes = refl;
     })
   where
@@ -182,7 +187,7 @@ unfolding expression
 set_target globals locals kinds given point plain.NoIndex at v place value knows see has good is e wanted =
     let same = ok_same v place e in
     set_variable (site globals kinds given) point place.expr value place.kind (subst (λ z. IsVar z.expr) same is)
-      (subst (λ z. HasKind (site globals kinds given) point.visible z.expr z.kind) same has.has) (subst (λ z. IsValue z.kind) same good) wanted
+    (subst (λ z. HasKind (site globals kinds given) point.visible z.expr z.kind) same has.has) (subst (λ z. IsValue z.kind) same good) wanted
 set_target globals locals kinds given point (plain.AnIndex index bracket_at others) at v place value knows see has good is e wanted =
     let h = indexed_is globals locals kinds given point.visible knows see (plain.AnIndex index bracket_at others) at v place has e in
     set_cell (site globals kinds given) point place.expr value place.kind (cell_shape globals locals index bracket_at others at v place e) h.has wanted
@@ -196,14 +201,14 @@ assign_is globals given locals point target indices value y knows st e =
     let x = then_ok (expression globals locals value) _ y p.second in
     let a = then_ok (asked p.value.kind (expression_at value) x.value) _ y x.second in
     subst (λ z. Moves globals given locals point z locals) (ok_same (goes_on (stored p.value.expr a.value)) y a.second)
-      (stays globals given locals point (goes_on (stored p.value.expr a.value)) st
-        (λ kinds begins.
-          let see = sees globals.packings locals point kinds st begins in
-          let h = variable_is globals locals kinds given point.visible target v.value see v.first in
-          let wanted = asked_is (site globals kinds given) point.visible p.value.kind (expression_at value) x.value a.value a.first
-                (read_expression globals given locals point value x.value knows st x.first kinds begins).has in
-          set_target globals locals kinds given point indices target.at v.value p.value a.value knows see h.0 h.1 (variable_shape locals target v.value v.first) p.first wanted)
-        (stored_completes p.value.expr a.value))
+    (stays globals given locals point (goes_on (stored p.value.expr a.value)) st
+    (λ kinds begins.
+    let see = sees globals.packings locals point kinds st begins in
+    let h = variable_is globals locals kinds given point.visible target v.value see v.first in
+    let wanted = asked_is (site globals kinds given) point.visible p.value.kind (expression_at value) x.value a.value a.first
+    (read_expression globals given locals point value x.value knows st x.first kinds begins).has in
+    set_target globals locals kinds given point indices target.at v.value p.value a.value knows see h.0 h.1 (variable_shape locals target v.value v.first) p.first wanted)
+    (stored_completes p.value.expr a.value))
 
 -- ---- calls, printing, returns
 
@@ -220,11 +225,11 @@ unfolding called IsStatement
 called_is globals given locals point f xs y knows st e =
     let s = then_ok (primary globals locals (plain.Call f xs)) _ y e in
     subst (λ z. Moves globals given locals point z locals) (ok_same (goes_on (core.Do s.value.expr)) y s.second)
-      (stays globals given locals point (goes_on (core.Do s.value.expr)) st
-        (λ kinds begins.
-          let h = primary_is globals locals kinds given point.visible knows (sees globals.packings locals point kinds st begins) (plain.Call f xs) s.value s.first in
-          (s.value.kind, call_shape globals locals f xs s.value s.first, h.has, refl))
-        refl)
+    (stays globals given locals point (goes_on (core.Do s.value.expr)) st
+    (λ kinds begins.
+    let h = primary_is globals locals kinds given point.visible knows (sees globals.packings locals point kinds st begins) (plain.Call f xs) s.value s.first in
+    (s.value.kind, call_shape globals locals f xs s.value s.first, h.has, refl))
+    refl)
 
 pub printed_is : (globals : Globals) (given : Kind) (locals : Locals) (point : Point) (value : plain.Expression) (y : Done) → Knows globals
     → Stands globals.packings locals point → printed globals locals value ≡ Ok y → Moves globals given locals point y locals
@@ -233,10 +238,13 @@ printed_is globals given locals point value y knows st e =
     let s = then_ok (expression globals locals value) _ y e in
     let a = then_ok (asked kind.Int (expression_at value) s.value) _ y s.second in
     subst (λ z. Moves globals given locals point z locals) (ok_same (goes_on (core.Print a.value)) y a.second)
-      (stays globals given locals point (goes_on (core.Print a.value)) st
-        (λ kinds begins. (asked_is (site globals kinds given) point.visible kind.Int (expression_at value) s.value a.value a.first
-          (read_expression globals given locals point value s.value knows st s.first kinds begins).has, refl))
-        refl)
+    (stays globals given locals point (goes_on (core.Print a.value)) st
+    (λ kinds begins. (
+      asked_is (site globals kinds given) point.visible kind.Int (expression_at value) s.value a.value a.first
+          (read_expression globals given locals point value s.value knows st s.first kinds begins).has,
+      refl,
+    ))
+    refl)
 
 return_none_is : (given : Kind) (at : ℕ) (y : Done) → return_none given at ≡ Ok y → (given ≡ kind.Unit) × (ends (core.Return None at) ≡ y)
 unfolding return_none
@@ -249,14 +257,20 @@ unfolding returned return_value IsStatement
 returned_is globals given locals point None at y knows st e =
     let r = return_none_is given at y e in
     subst (λ z. Moves globals given locals point z locals) r.1
-      (stays globals given locals point (ends (core.Return None at)) st (λ kinds begins. (r.0, refl)) refl)
+    (stays globals given locals point (ends (core.Return None at)) st (λ kinds begins. (r.0, refl)) refl)
 returned_is globals given locals point (Some value) at y knows st e =
     let k = then_ok (asked_value at given) _ y e in
     let s = then_ok (expression globals locals value) _ y k.second in
     let a = then_ok (asked given (expression_at value) s.value) _ y s.second in
     let g = asked_value_is at given k.value k.first in
     subst (λ z. Moves globals given locals point z locals) (ok_same (ends (core.Return (Some a.value) at)) y a.second)
-      (stays globals given locals point (ends (core.Return (Some a.value) at)) st
-        (λ kinds begins. ((g.1, asked_is (site globals kinds given) point.visible given (expression_at value) s.value a.value a.first
-          (read_expression globals given locals point value s.value knows st s.first kinds begins).has), refl))
-        refl)
+    (stays globals given locals point (ends (core.Return (Some a.value) at)) st
+    (λ kinds begins. (
+      (
+        g.1,
+        asked_is (site globals kinds given) point.visible given (expression_at value) s.value a.value a.first
+            (read_expression globals given locals point value s.value knows st s.first kinds begins).has,
+      ),
+      refl,
+    ))
+    refl)

@@ -1,17 +1,17 @@
 -- Each test that is read is a test of the core: one case for each production.
-use Rattle.std.proofs.Common.{◌≡◌, sym, ap, subst, ℕ, Bool, true, false, List, [], ◌∷◌, ◌++◌, Ok, refl}
+use Rattle.std.proofs.Common.{◌≡◌, subst, ℕ, Bool, true, false, List, [], ◌∷◌, ◌++◌, Ok, refl}
 use Rattle.std.specs.Prelude.{cond}
 use Rattle.xanadu_tree.specs.declared.types.Kind.{Kind}
 use Rattle.xanadu_tree.specs.declared.types.Kind.TheVariants as kind
-use Rattle.xanadu_tree.specs.KindRules.{Setting, HasKind, AreSeveral, IsTest, AreTests}
+use Rattle.xanadu_tree.specs.KindRules.{Setting, AreSeveral, IsTest, AreTests}
 use Rattle.xanadu_tree.specs.Plain as core
 use Rattle.xanadu_tree.specs.PlainOf.{to_tests}
 use Rattle.xanadu_tree.specs.PlainTree as plain
 use Rattle.xanadu_tree.specs.Written.{primary_at, IsSome}
 use Rattle.scope_shapes.specs.Faults.{Check, ◌>>=◌}
 use Rattle.scope_shapes.specs.Sites.{Globals, Locals, Typed, asked}
-use Rattle.scope_shapes.specs.Expressions.{has_conjunction, has_negation, has_comparand, has_addend, has_factor, has_index, leaf, any_test, all_test, comparison, sum, product, unary, postfix, primary, test, any_tests, conjunction_test, all_tests, negation_test, comparison_test, sum_test, product_test, unary_test, postfix_test, primary_test}
-use Rattle.scope_shapes.proofs.ShapedLists.{Then, then_ok, ok_same}
+use Rattle.scope_shapes.specs.Expressions.{has_conjunction, has_negation, has_comparand, has_addend, has_factor, has_index, leaf, any_test, all_test, comparison, sum, product, postfix, test, any_tests, conjunction_test, all_tests, negation_test, comparison_test, sum_test, product_test, unary_test, postfix_test, primary_test}
+use Rattle.scope_shapes.proofs.ShapedLists.{then_ok, ok_same}
 use Rattle.scope_shapes.proofs.ShapedKinds.{asked_is}
 use Rattle.scope_shapes.proofs.ShapedExpressions.{Knows, site, Sees, Has}
 use Rattle.scope_shapes.proofs.ShapedOperands.{comparison_is, sum_is, product_is, unary_is, postfix_is, primary_is}
@@ -94,7 +94,7 @@ module _ (globals : Globals) (locals : Locals) (kinds : List Kind) (given : Kind
         let s = then_ok (conjunction_test globals locals first) (λ t. any_test (has_conjunction rest) t (any_tests globals locals rest (t ∷ []))) y e in
         let is = conjunction_test_is first s.value s.first in
         any_is (site globals kinds given) visible (has_conjunction rest) s.value (any_tests globals locals rest (s.value ∷ [])) y is
-          (λ parts found some. let a = any_tests_are rest (s.value ∷ []) parts (tests_with _ visible [] s.value (no_tests _ visible) is) found in (a.0, a.2 tt some)) s.second
+        (λ parts found some. let a = any_tests_are rest (s.value ∷ []) parts (tests_with _ visible [] s.value (no_tests _ visible) is) found in (a.0, a.2 tt some)) s.second
 
     any_tests_are : (x : plain.Conjunctions) (parts ys : List core.Test) → AreTests (site globals kinds given) visible (to_tests parts) → any_tests globals locals x parts ≡ Ok ys
         → AreTests (site globals kinds given) visible (to_tests ys) × (IsTwo parts → IsTwo ys) × (IsSome parts → has_conjunction x ≡ true → IsTwo ys)
@@ -111,7 +111,7 @@ module _ (globals : Globals) (locals : Locals) (kinds : List Kind) (given : Kind
         let s = then_ok (negation_test globals locals first) (λ t. all_test (has_negation rest) t (all_tests globals locals rest (t ∷ []))) y e in
         let is = negation_test_is first s.value s.first in
         all_is (site globals kinds given) visible (has_negation rest) s.value (all_tests globals locals rest (s.value ∷ [])) y is
-          (λ parts found some. let a = all_tests_are rest (s.value ∷ []) parts (tests_with _ visible [] s.value (no_tests _ visible) is) found in (a.0, a.2 tt some)) s.second
+        (λ parts found some. let a = all_tests_are rest (s.value ∷ []) parts (tests_with _ visible [] s.value (no_tests _ visible) is) found in (a.0, a.2 tt some)) s.second
 
     all_tests_are : (x : plain.Negations) (parts ys : List core.Test) → AreTests (site globals kinds given) visible (to_tests parts) → all_tests globals locals x parts ≡ Ok ys
         → AreTests (site globals kinds given) visible (to_tests ys) × (IsTwo parts → IsTwo ys) × (IsSome parts → has_negation x ≡ true → IsTwo ys)
@@ -131,20 +131,20 @@ module _ (globals : Globals) (locals : Locals) (kinds : List Kind) (given : Kind
     comparison_test_is : (x : plain.Comparison) (y : core.Test) → comparison_test globals locals x ≡ Ok y → IsTest (site globals kinds given) visible y
     comparison_test_is (plain.ComparisonOf left right at) y e =
         either_way (has_comparand right) (leaf at (comparison globals locals (plain.ComparisonOf left right at))) (sum_test globals locals left) y e
-          (λ h. leaf_is (site globals kinds given) visible at _ y (comparison_is globals locals kinds given visible knows sees (plain.ComparisonOf left right at)) h)
-          (λ h. sum_test_is left y h)
+        (λ h. leaf_is (site globals kinds given) visible at _ y (comparison_is globals locals kinds given visible knows sees (plain.ComparisonOf left right at)) h)
+        (λ h. sum_test_is left y h)
 
     sum_test_is : (x : plain.Sum) (y : core.Test) → sum_test globals locals x ≡ Ok y → IsTest (site globals kinds given) visible y
     sum_test_is (plain.SumOf first rest at) y e =
         either_way (has_addend rest) (leaf at (sum globals locals (plain.SumOf first rest at))) (product_test globals locals first) y e
-          (λ h. leaf_is (site globals kinds given) visible at _ y (sum_is globals locals kinds given visible knows sees (plain.SumOf first rest at)) h)
-          (λ h. product_test_is first y h)
+        (λ h. leaf_is (site globals kinds given) visible at _ y (sum_is globals locals kinds given visible knows sees (plain.SumOf first rest at)) h)
+        (λ h. product_test_is first y h)
 
     product_test_is : (x : plain.Product) (y : core.Test) → product_test globals locals x ≡ Ok y → IsTest (site globals kinds given) visible y
     product_test_is (plain.ProductOf first rest at) y e =
         either_way (has_factor rest) (leaf at (product globals locals (plain.ProductOf first rest at))) (unary_test globals locals first) y e
-          (λ h. leaf_is (site globals kinds given) visible at _ y (product_is globals locals kinds given visible knows sees (plain.ProductOf first rest at)) h)
-          (λ h. unary_test_is first y h)
+        (λ h. leaf_is (site globals kinds given) visible at _ y (product_is globals locals kinds given visible knows sees (plain.ProductOf first rest at)) h)
+        (λ h. unary_test_is first y h)
 
     unary_test_is : (x : plain.Unary) (y : core.Test) → unary_test globals locals x ≡ Ok y → IsTest (site globals kinds given) visible y
     unary_test_is (plain.UnaryOf false operand at) y e = postfix_test_is operand y e
@@ -154,8 +154,8 @@ module _ (globals : Globals) (locals : Locals) (kinds : List Kind) (given : Kind
     postfix_test_is : (x : plain.Postfix) (y : core.Test) → postfix_test globals locals x ≡ Ok y → IsTest (site globals kinds given) visible y
     postfix_test_is (plain.PostfixOf p indices at) y e =
         either_way (has_index indices) (leaf at (postfix globals locals (plain.PostfixOf p indices at))) (primary_test globals locals p) y e
-          (λ h. leaf_is (site globals kinds given) visible at _ y (postfix_is globals locals kinds given visible knows sees (plain.PostfixOf p indices at)) h)
-          (λ h. primary_test_is p y h)
+        (λ h. leaf_is (site globals kinds given) visible at _ y (postfix_is globals locals kinds given visible knows sees (plain.PostfixOf p indices at)) h)
+        (λ h. primary_test_is p y h)
 
     primary_test_is : (x : plain.Primary) (y : core.Test) → primary_test globals locals x ≡ Ok y → IsTest (site globals kinds given) visible y
     primary_test_is (plain.Group x at) y e = test_is x y e

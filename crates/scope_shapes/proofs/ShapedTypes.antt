@@ -1,6 +1,6 @@
 -- Declared types that are read keep the rules of a core.
-use Rattle.std.proofs.Common.{◌≡◌, sym, ap, subst, ℕ, zero, suc, ◌+◌, ◌-◌, ◌<◌, ◌≤◌, Bool, true, false, List, [], ◌∷◌, ◌++◌, length, get_or, Option, Some, None, Ok, refl, arith, ◌∙◌, ◌⊎◌, inl, inr, append_assoc, append-nil}
-use Rattle.std.specs.Prelude.{cond, is_some, slice_get, if◌then◌else◌, ◌||◌}
+use Rattle.std.proofs.Common.{◌≡◌, sym, ap, subst, ℕ, zero, suc, ◌+◌, ◌<◌, ◌≤◌, Bool, true, false, List, [], ◌∷◌, ◌++◌, length, get_or, Option, Some, None, Ok, refl, arith, ◌∙◌, ◌⊎◌, inl, inr, append_assoc, append-nil}
+use Rattle.std.specs.Prelude.{cond, slice_get, if◌then◌else◌, ◌||◌}
 use Rattle.std.specs.List.{AllByRecursion, AllZip, list_any}
 use Rattle.std.specs.Option.{option_and_then}
 use Rattle.std.specs.BTreeMap.{is_at}
@@ -21,13 +21,13 @@ use Rattle.xanadu_tree.specs.BodyRules.{IsType}
 use Rattle.xanadu_tree.specs.Shaped.{HasParts, IsPacking}
 use Rattle.xanadu_tree.specs.PlainTree as plain
 use Rattle.xanadu_tree.specs.Written.{IsTypeBody, IsTypeDeclaration, AreDeclarations, IsSome}
-use Rattle.scope_shapes.specs.Faults.{Check, fault, ◌>>=◌}
+use Rattle.scope_shapes.specs.Faults.{Check, fault}
 use Rattle.scope_shapes.specs.declared.error.ShapeKind.TheVariants.{NoIndex, NamedTwice}
-use Rattle.scope_shapes.specs.Names.{Scope, Table, Types, added, place}
+use Rattle.scope_shapes.specs.Names.{Scope, Table, Types, added}
 use Rattle.scope_shapes.specs.Quantifiers.{Frame, empty_frame, opened, type_in, types_in, unindexed, quant, closed}
 use Rattle.scope_shapes.specs.Headers.{is_tuple, part_types, type_names, packing, packings}
-use Rattle.scope_shapes.proofs.ShapedQuantifiers.{own, Wider, Bound, Frames, Typed, Fits, written, opened_opens, type_is}
-use Rattle.scope_shapes.proofs.ShapedLists.{Then, then_ok, ok_same, unless_ok, all_with, length_both}
+use Rattle.scope_shapes.proofs.ShapedQuantifiers.{Wider, Bound, Frames, Typed, Fits, written, opened_opens, type_is}
+use Rattle.scope_shapes.proofs.ShapedLists.{then_ok, ok_same, unless_ok, all_with, length_both}
 
 -- ---- types in order
 
@@ -95,7 +95,7 @@ indexed_all : (bs : List Binder) (number : ℕ) (indices : List ℕ) (v : ℕ) �
 unfolding unindexed
 indexed_all [] number indices v e from below = absurd (omega (arith, from, below))
 indexed_all (b ∷ bs) number indices v e from below = by (list_any (is_at (nat_cmp number)) indices) refl e
-      (λ rest behind. indexed_all bs (number + 1) indices v rest behind (omega (arith, below))) (here_or_behind v number from)
+    (λ rest behind. indexed_all bs (number + 1) indices v rest behind (omega (arith, below))) (here_or_behind v number from)
   where
     by : (c : Bool) → list_any (is_at (nat_cmp number)) indices ≡ c → (if c then unindexed bs (number + 1) indices else Some b.name.at) ≡ None
         → (unindexed bs (number + 1) indices ≡ None → number + 1 ≤ v → list_any (is_at (nat_cmp v)) indices ≡ true)
@@ -165,7 +165,7 @@ packing_is P types d y fits is e =
     let c = closes P [] d.quantifier 0 t.value.1 s.value.1 t.value.0 u.value (all.wider.first ∙ b.first) all.frames u.first in
     let n = types_count types s.value.0 s.value.1 [] (part_types d.body) t.value t.first in
     subst (IsPacking P) (ok_same (record { quant = u.value; parts = t.value.0; tuple = is_tuple d.body }) y u.second)
-      (record { parts = c.types; many = has_parts d.body t.value.0 is.1 n; quantified = c.quantified })
+    (record { parts = c.types; many = has_parts d.body t.value.0 is.1 n; quantified = c.quantified })
   where
     has_parts : (body : plain.TypeBody) (parts : List CoreTy) → IsTypeBody body → length parts ≡ 0 + length (part_types body) → HasParts (is_tuple body) parts
     has_parts (plain.Cell t) [] h n = absurd (omega (arith, n))
@@ -276,6 +276,7 @@ fits_by types P count all = record { cells = cells; tuples = tuples }
         let f = found_at types.tuples P n all (omega (arith, count, below)) in
         let h = held_some (suc (suc n)) f.packing f.has.1 in
         (h.0, ap (option_and_then (held_kind (suc (suc n)))) f.at ∙ h.1)
+
     tuples : (n : ℕ) → n < length types.names → get_or types.tuples n false ≡ true → (packing : Packing) × (tuple_packing P (suc (suc n)) ≡ Some packing)
     tuples n below flag =
         let f = found_at types.tuples P n all (omega (arith, count, below)) in
