@@ -1,10 +1,13 @@
-//! What printing and reading are to each other, as laws that functions without code carry.
+//! What printing and reading are to each other, and which small cores keep the rules of a core, as laws that functions without code carry.
 
-ghost use Rattle.std.specs.Prelude.{◌≡◌, Ok};
+ghost use Rattle.std.specs.Prelude.{◌≡◌, ℕ, Ok};
 ghost use Rattle.xanadu_lexer.specs.Lexing.{lexed};
 ghost use Rattle.xanadu_tree.specs.Pieces.{kinds, tokens_from};
 ghost use Rattle.xanadu_tree.specs.PlainTree as plain;
 ghost use Rattle.xanadu_tree.specs.Printing.{printed};
+ghost use Rattle.xanadu_tree.specs.Plain as core;
+ghost use Rattle.xanadu_tree.specs.Shaped.{Shaped};
+ghost use Rattle.xanadu_tree.specs.Small.{IsSum, number_program};
 ghost use Rattle.xanadu_tree.specs.Spelling.{pieces};
 ghost use Rattle.xanadu_tree.specs.Unplaced.{ReadsAlike};
 ghost use Rattle.xanadu_tree.specs.Written.{IsWritten, Reads};
@@ -22,4 +25,9 @@ pub fn printed_is_read_again()
 /// Each tree that the text is read as has the same tokens, up to their places.
 pub fn readings_are_alike()
     ensures { (tree other : plain.Tree) → IsWritten tree → Reads (printed tree) other → kinds (pieces other) ≡ kinds (pieces tree) }
+{}
+
+/// The program of a sum keeps the rules of a core.
+pub fn sums_are_shaped()
+    ensures { (count : ℕ) (value : core.Expr) (return_at at : ℕ) → IsSum count value → Shaped (number_program count value return_at at) }
 {}

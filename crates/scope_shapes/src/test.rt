@@ -1,0 +1,174 @@
+//! Tests of `if` and `while`.
+
+ghost use Rattle.std.specs.Prelude.{◌≡◌, map, [], ◌∷◌, Ok};
+ghost use Rattle.xanadu_tree.specs.PlainOf.{plain_test};
+ghost use Rattle.xanadu_tree.specs.PlainTreeOf.{plain_expression, plain_conjunction, plain_negation, plain_comparison, plain_sum, plain_product, plain_unary, plain_postfix, plain_primary};
+ghost use Rattle.scope_shapes.specs.Code.{Gives};
+ghost use Rattle.scope_shapes.specs.Expressions as spec;
+ghost use Rattle.scope_shapes.specs.NodesOf.{conjunctions_of, negations_of};
+ghost use Rattle.scope_shapes.specs.SitesOf.{globals_of, locals_of, typed_of};
+
+use crate::error::ShapeError;
+use crate::expression::{comparison, postfix, primary, product, sum, unary};
+use crate::making;
+use crate::places::{
+    has_addend, has_comparand, has_conjunction, has_factor, has_index, has_negation,
+    place_of_primary,
+};
+use crate::site::{asked, Site, Typed};
+use std::alloc::Global;
+use xanadu_tree::{
+    Comparison, Conjunction, Expression, Kind, Negation, Postfix, Primary, Product, Sum, Test,
+    Unary,
+};
+
+/// An expression as a test.
+fn leaf(typed: Typed, at: u32) -> Result<Test, ShapeError>
+    ensures { Gives plain_test result (spec.leaf at (Ok (typed_of typed))) }
+{
+    Ok(making::leaf(asked(Kind::Bool, at, typed)?))
+}
+
+#[cycle(test)]
+#[tactic(auto, using(xanadu_tree::proofs::TreeEquations::plain_nodes), unfolding(crate::specs::Expressions::test))]
+pub fn test(e: &Expression, site: &Site<'_, '_>) -> Result<Test, ShapeError>
+    ensures { Gives plain_test result (spec.test (globals_of site.now.globals.now) (locals_of site.now.locals.now) (plain_expression e.now)) }
+{
+    let first = conjunction_test(&e.first, site)?;
+    if !has_conjunction(&e.rest) {
+        return Ok(first);
+    }
+    Ok(making::any(any_tests(&e.rest, site, first)?))
+}
+
+/// The parts of `||`, of which this one is the first.
+#[cycle(test)]
+#[tactic(auto, using(xanadu_tree::proofs::TreeEquations::plain_nodes), unfolding(crate::specs::Expressions::any_tests))]
+fn any_tests(
+    rest: &[(Conjunction, u32)],
+    site: &Site<'_, '_>,
+    first: Test,
+) -> Result<Vec<Test>, ShapeError>
+    ensures { Gives (λ x. map plain_test x.items) result (spec.any_tests (globals_of site.now.globals.now) (locals_of site.now.locals.now) (conjunctions_of rest.now) (plain_test first ∷ [])) }
+{
+    let mut parts = Vec::new(site.alloc);
+    parts.push(first)?;
+    for (part, _) in rest {
+        parts.push(conjunction_test(part, site)?)?;
+    }
+    Ok(parts)
+}
+
+#[cycle(test)]
+#[tactic(auto, using(xanadu_tree::proofs::TreeEquations::plain_nodes), unfolding(crate::specs::Expressions::conjunction_test))]
+fn conjunction_test(c: &Conjunction, site: &Site<'_, '_>) -> Result<Test, ShapeError>
+    ensures { Gives plain_test result (spec.conjunction_test (globals_of site.now.globals.now) (locals_of site.now.locals.now) (plain_conjunction c.now)) }
+{
+    let first = negation_test(&c.first, site)?;
+    if !has_negation(&c.rest) {
+        return Ok(first);
+    }
+    Ok(making::all(all_tests(&c.rest, site, first)?))
+}
+
+/// The parts of `&&`, of which this one is the first.
+#[cycle(test)]
+#[tactic(auto, using(xanadu_tree::proofs::TreeEquations::plain_nodes), unfolding(crate::specs::Expressions::all_tests))]
+fn all_tests(
+    rest: &[(Negation, u32)],
+    site: &Site<'_, '_>,
+    first: Test,
+) -> Result<Vec<Test>, ShapeError>
+    ensures { Gives (λ x. map plain_test x.items) result (spec.all_tests (globals_of site.now.globals.now) (locals_of site.now.locals.now) (negations_of rest.now) (plain_test first ∷ [])) }
+{
+    let mut parts = Vec::new(site.alloc);
+    parts.push(first)?;
+    for (part, _) in rest {
+        parts.push(negation_test(part, site)?)?;
+    }
+    Ok(parts)
+}
+
+#[cycle(test)]
+#[tactic(auto, using(xanadu_tree::proofs::TreeEquations::plain_nodes), unfolding(crate::specs::Expressions::negation_test))]
+fn negation_test(n: &Negation, site: &Site<'_, '_>) -> Result<Test, ShapeError>
+    ensures { Gives plain_test result (spec.negation_test (globals_of site.now.globals.now) (locals_of site.now.locals.now) (plain_negation n.now)) }
+{
+    let part = comparison_test(&n.operand, site)?;
+    if !n.negated {
+        return Ok(part);
+    }
+    Ok(making::opposite_test(part, site.alloc)?)
+}
+
+#[cycle(test)]
+#[tactic(auto, using(xanadu_tree::proofs::TreeEquations::plain_nodes), unfolding(crate::specs::Expressions::comparison_test))]
+fn comparison_test(c: &Comparison, site: &Site<'_, '_>) -> Result<Test, ShapeError>
+    ensures { Gives plain_test result (spec.comparison_test (globals_of site.now.globals.now) (locals_of site.now.locals.now) (plain_comparison c.now)) }
+{
+    if has_comparand(&c.right) {
+        return leaf(comparison(c, site)?, c.at);
+    }
+    sum_test(&c.left, site)
+}
+
+#[cycle(test)]
+#[tactic(auto, using(xanadu_tree::proofs::TreeEquations::plain_nodes), unfolding(crate::specs::Expressions::sum_test))]
+fn sum_test(s: &Sum, site: &Site<'_, '_>) -> Result<Test, ShapeError>
+    ensures { Gives plain_test result (spec.sum_test (globals_of site.now.globals.now) (locals_of site.now.locals.now) (plain_sum s.now)) }
+{
+    if has_addend(&s.rest) {
+        return leaf(sum(s, site)?, s.at);
+    }
+    product_test(&s.first, site)
+}
+
+#[cycle(test)]
+#[tactic(auto, using(xanadu_tree::proofs::TreeEquations::plain_nodes), unfolding(crate::specs::Expressions::product_test))]
+fn product_test(p: &Product, site: &Site<'_, '_>) -> Result<Test, ShapeError>
+    ensures { Gives plain_test result (spec.product_test (globals_of site.now.globals.now) (locals_of site.now.locals.now) (plain_product p.now)) }
+{
+    if has_factor(&p.rest) {
+        return leaf(product(p, site)?, p.at);
+    }
+    unary_test(&p.first, site)
+}
+
+#[cycle(test)]
+#[tactic(auto, using(xanadu_tree::proofs::TreeEquations::plain_nodes), unfolding(crate::specs::Expressions::unary_test))]
+fn unary_test(u: &Unary, site: &Site<'_, '_>) -> Result<Test, ShapeError>
+    ensures { Gives plain_test result (spec.unary_test (globals_of site.now.globals.now) (locals_of site.now.locals.now) (plain_unary u.now)) }
+{
+    if u.negative {
+        return leaf(unary(u, site)?, u.at);
+    }
+    postfix_test(&u.operand, site)
+}
+
+#[cycle(test)]
+#[tactic(auto, using(xanadu_tree::proofs::TreeEquations::plain_nodes), unfolding(crate::specs::Expressions::postfix_test))]
+fn postfix_test(p: &Postfix, site: &Site<'_, '_>) -> Result<Test, ShapeError>
+    ensures { Gives plain_test result (spec.postfix_test (globals_of site.now.globals.now) (locals_of site.now.locals.now) (plain_postfix p.now)) }
+{
+    if has_index(&p.indices) {
+        return leaf(postfix(p, site)?, p.at);
+    }
+    primary_test(&p.primary, site)
+}
+
+#[cycle(test)]
+#[tactic(auto, using(xanadu_tree::proofs::TreeEquations::plain_nodes), unfolding(crate::specs::Expressions::primary_test))]
+fn primary_test(p: &Primary, site: &Site<'_, '_>) -> Result<Test, ShapeError>
+    ensures { Gives plain_test result (spec.primary_test (globals_of site.now.globals.now) (locals_of site.now.locals.now) (plain_primary p.now)) }
+{
+    match p {
+        Primary::Group(inner, _) => test(inner, site),
+        Primary::Number(_, _)
+        | Primary::Truth(_, _)
+        | Primary::Variable(_)
+        | Primary::Call(_, _)
+        | Primary::Make(_, _)
+        | Primary::Length(_, _)
+        | Primary::New { .. } => leaf(primary(p, site)?, place_of_primary(p)),
+    }
+}
