@@ -6,3 +6,7 @@ pub mod Tracing
 pub mod Cone
 pub mod Elimination
 pub mod Meaning
+pub mod Merging
+pub mod Buffers
+pub mod Reducing
+pub mod Solving
