@@ -1,6 +1,7 @@
 -- Reduced rows: no two have equal coefficients. And what comes of a pass that may stop: no part of the promise.
-use Rattle.std.specs.Prelude.{◌≡◌, ℕ, Bool, true, false, Option, Some, None, List, [], ◌∷◌, Result, Ok, Err}
-use Rattle.std.specs.List.{list_any}
+use Rattle.std.specs.Prelude.{◌≡◌, ℕ, ◌<◌, length, Bool, true, false, Option, Some, None, List, [], ◌∷◌, Result, Ok, Err}
+use Rattle.std.specs.List.{list_any, slice_index_or}
+use Rattle.xan_lin.specs.declared.term.Term.{Term}
 use Rattle.xan_lin.specs.declared.term.LimitKind.{LimitKind}
 use Rattle.linear_solver.specs.declared.stop.Stop.{Stop}
 use Rattle.linear_solver.specs.declared.stop.Stop.TheVariants.{Limit, Memory}
@@ -22,3 +23,7 @@ Gives (Err Memory) after wanted = Unit {0}
 abbrev pub IsSummed : Option Row → ℕ → ℕ → Row → Row → Type 0
 IsSummed None a b p n = are_within (sum_of_two a b p n).terms (sum_of_two a b p n).constant ≡ false
 IsSummed (Some r) a b p n = (are_within (sum_of_two a b p n).terms (sum_of_two a b p n).constant ≡ true) × (r ≡ tight (sum_source a b p n) (sum_of_two a b p n))
+
+-- the row at this place has these coefficients
+abbrev pub IsPlace : List Row → List Term → ℕ → Type 0
+IsPlace rows ts k = (k < length rows) × ((d : Row) → same_terms (slice_index_or rows k d).terms ts ≡ true)

@@ -1,5 +1,5 @@
 -- The steps from which one of them is made, counted anew.
-use Rattle.std.specs.Prelude.{ℕ, zero, suc, Bool, true, false, List, [], ◌∷◌, ◌++◌, length, replicate, slice_set, if◌then◌else◌}
+use Rattle.std.specs.Prelude.{ℕ, zero, suc, ◌+◌, take, Bool, true, false, List, [], ◌∷◌, ◌++◌, length, replicate, slice_set, if◌then◌else◌}
 use Rattle.std.specs.List.{slice_index_or}
 use Rattle.linear_solver.specs.declared.step.Step.{Step}
 use Rattle.linear_solver.specs.declared.step.Step.TheVariants.{Hyp, Goal, Comb, Cut}
@@ -42,6 +42,6 @@ kept_onto kept numbers (mark ∷ marks) (s ∷ steps) =
     if mark then kept_onto (kept ++ renumbered numbers s ∷ []) (numbers ++ length kept ∷ []) marks steps
     else kept_onto kept (numbers ++ 0 ∷ []) marks steps
 
--- the steps from which the step of this number is made; it is the last of them
+-- of the steps up to that of this number, those from which it is made; it is the last of them
 unfoldable pub traced : List Step → ℕ → List Step
-traced steps line = kept_onto [] [] (needed steps line) steps
+traced steps line = kept_onto [] [] (needed (take (line + 1) steps) line) (take (line + 1) steps)

@@ -17,6 +17,7 @@ pub(crate) struct Choice {
 }
 
 /// What a look at a system shows, whose variables are among these.
+#[tactic(auto, unfolding(crate::specs::Choosing::look_at))]
 pub(crate) fn look_at(vars: &[u32], rows: &[SystemRow]) -> Look
     ensures { result ≡ look_at vars.now rows.now }
 {
@@ -33,6 +34,7 @@ pub(crate) fn look_at(vars: &[u32], rows: &[SystemRow]) -> Look
 }
 
 // The step that gives the first row that cannot hold.
+#[tactic(auto, unfolding(crate::specs::Choosing::refuted_by))]
 fn refuted_by(rows: &[SystemRow]) -> Option<u32>
     ensures { result ≡ refuted_by rows.now }
 {
@@ -60,6 +62,7 @@ fn choice_of(var: u32, positive: usize, negative: usize) -> Option<Choice>
 }
 
 // The choice of this variable, where the system has it.
+#[tactic(auto, unfolding(crate::specs::Choosing::candidate))]
 fn candidate(var: u32, rows: &[SystemRow]) -> Option<Choice>
     requires { length rows.now ≤ 2000 }
     ensures { result ≡ candidate var rows.now }
@@ -90,6 +93,7 @@ fn better(best: Option<Choice>, next: Option<Choice>) -> Option<Choice>
 }
 
 // The best choice of these variables.
+#[tactic(auto, unfolding(crate::specs::Choosing::best_from))]
 fn best(vars: &[u32], rows: &[SystemRow]) -> Option<Choice>
     requires { length rows.now ≤ 2000 }
     ensures { result ≡ best_from rows.now None vars.now }

@@ -1,13 +1,12 @@
 // The sum of two rows of terms, each times a number.
-ghost use Rattle.std.specs.Prelude.{◌≡◌, ◌^◌, ◌<◌, ◌++◌, [], pos, true, false, IsTrue, IfOk, MatchOption, unsigned_abs, length};
+ghost use Rattle.std.specs.Prelude.{◌≡◌, ◌^◌, ◌<◌, ◌++◌, ◌+◌, nat_lt, [], pos, true, false, IsTrue, IfOk, MatchOption, unsigned_abs, length};
 ghost use Rattle.xan_lin.specs.Terms.{IsRising, with_multiple};
 ghost use Rattle.xan_lin.specs.Linear.{all_within};
 ghost use Rattle.linear_solver.specs.Merging.{front_coefficient, behind, front_variable, combined_terms};
 
 use crate::divisors::Multipliers;
 use crate::numbers::number_combination;
-use crate::stop::Stop;
-use std::alloc::Global;
+use std::alloc::{AllocError, Global};
 use xan_lin::Term;
 
 // The coefficient of a variable in the first term.
@@ -46,8 +45,15 @@ fn front_variable(left: &[Term], right: &[Term]) -> u32
     if y.var < x.var { y.var } else { x.var }
 }
 
+// Whether one of the lists has terms.
+fn are_left(left: &[Term], right: &[Term]) -> bool
+    ensures { result ≡ nat_lt 0 (length left.now + length right.now) }
+{
+    !left.is_empty() || !right.is_empty()
+}
+
 // Puts a term behind others, where its coefficient is not 0.
-fn push_multiple(made: &mut Vec<Term>, var: u32, coef: &i64) -> Result<(), Stop>
+fn push_multiple(made: &mut Vec<Term>, var: u32, coef: &i64) -> Result<(), AllocError>
     ensures { IfOk result (λ _. made.new.items ≡ made.old.items ++ with_multiple var coef.now []) }
 {
     if *coef != 0 {
@@ -62,7 +68,7 @@ pub(crate) fn combined(
     left: &[Term],
     right: &[Term],
     by: &Multipliers,
-) -> Result<Option<Vec<Term>>, Stop>
+) -> Result<Option<Vec<Term>>, AllocError>
     requires left_rises { IsRising 0 left.now }
     requires right_rises { IsRising 0 right.now }
     requires first { unsigned_abs by.now.first < 2 ^ 63 }
@@ -73,7 +79,7 @@ pub(crate) fn combined(
     let mut made = Vec::with_capacity(alloc, left.len() + right.len())?;
     let mut xs = left;
     let mut ys = right;
-    'terms: while !xs.is_empty() || !ys.is_empty() {
+    'terms: while are_left(xs, ys) {
         let var = front_variable(xs, ys);
         let x = front_coefficient(xs, var);
         let y = front_coefficient(ys, var);

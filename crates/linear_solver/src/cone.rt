@@ -3,8 +3,7 @@ ghost use Rattle.std.specs.Prelude.{◌≡◌, ◌≤◌, ◌<◌, length, nat_l
 ghost use Rattle.proof_lines.specs.Variables.{is_among, with_variable, with_terms};
 ghost use Rattle.linear_solver.specs.Cone.{touches, reached, cone};
 
-use crate::stop::Stop;
-use std::alloc::Global;
+use std::alloc::{AllocError, Global};
 use xan_lin::{Form, Term};
 
 /// The most variables that may bear on a goal.
@@ -12,7 +11,8 @@ pub(crate) const MOST_VARIABLES: usize = 64;
 
 /// The variables that bear on a row: its own, and with a variable of a hypothesis all of that hypothesis. `None` comes where they are
 /// more than 64.
-pub(crate) fn cone(alloc: Global, hyps: &[Form], start: &Form) -> Result<Option<Vec<u32>>, Stop>
+#[tactic(auto, unfolding(crate::specs::Cone::cone))]
+pub(crate) fn cone(alloc: Global, hyps: &[Form], start: &Form) -> Result<Option<Vec<u32>>, AllocError>
     ensures { IfOk result (λ found. MatchOption found (nat_lt 64 (length (cone hyps.now start.now)) ≡ true)
         (λ vars. (vars.items ≡ cone hyps.now start.now) × (length vars.items ≤ 64))) }
 {
@@ -43,7 +43,8 @@ fn few(vars: Vec<u32>) -> Option<Vec<u32>>
 }
 
 // Adds the variables of each row that has one of them, in one walk over the rows.
-fn reach(vars: &mut Vec<u32>, rows: &[Form]) -> Result<(), Stop>
+#[tactic(auto, unfolding(crate::specs::Cone::reached))]
+fn reach(vars: &mut Vec<u32>, rows: &[Form]) -> Result<(), AllocError>
     ensures { IfOk result (λ _. vars.new.items ≡ reached vars.old.items rows.now) }
 {
     let mut rest = rows;
@@ -55,7 +56,7 @@ fn reach(vars: &mut Vec<u32>, rows: &[Form]) -> Result<(), Stop>
 }
 
 // Adds the variables of these terms, where one of them is there.
-fn reach_row(vars: &mut Vec<u32>, terms: &[Term]) -> Result<(), Stop>
+fn reach_row(vars: &mut Vec<u32>, terms: &[Term]) -> Result<(), AllocError>
     ensures { IfOk result (λ _. vars.new.items ≡ (if touches vars.old.items terms.now then with_terms vars.old.items terms.now else vars.old.items)) }
 {
     if touches(vars.as_slice(), terms) {
@@ -79,7 +80,8 @@ fn is_among(var: u32, vars: &[u32]) -> bool
 }
 
 // Adds the variables of these terms.
-fn add_terms(vars: &mut Vec<u32>, terms: &[Term]) -> Result<(), Stop>
+#[tactic(auto, unfolding(proof_lines::specs::Variables::with_terms))]
+fn add_terms(vars: &mut Vec<u32>, terms: &[Term]) -> Result<(), AllocError>
     ensures { IfOk result (λ _. vars.new.items ≡ with_terms vars.old.items terms.now) }
 {
     let mut rest = terms;
@@ -91,7 +93,7 @@ fn add_terms(vars: &mut Vec<u32>, terms: &[Term]) -> Result<(), Stop>
 }
 
 // Adds the variable, unless it is there.
-fn add_variable(vars: &mut Vec<u32>, var: u32) -> Result<(), Stop>
+fn add_variable(vars: &mut Vec<u32>, var: u32) -> Result<(), AllocError>
     ensures { IfOk result (λ _. vars.new.items ≡ with_variable vars.old.items var) }
 {
     if !is_among(var, vars.as_slice()) {

@@ -1,7 +1,6 @@
 // Greatest common divisors.
 ghost use Rattle.std.specs.Prelude.{◌≡◌, ◌^◌, ◌<◌, ◌/◌, pos, IsTrue, unsigned_abs};
 ghost use Rattle.xan_lin.specs.Linear.{all_within};
-ghost use Rattle.proof_lines.specs.Check.{is_positive};
 ghost use Rattle.linear_solver.specs.Divisors.{gcd, divisor};
 ghost use Rattle.linear_solver.specs.Systems.{first_by, second_by};
 
@@ -22,6 +21,7 @@ pub(crate) fn gcd(left: u64, right: u64) -> u64
 }
 
 /// The greatest common divisor of the coefficients, and 0 where there are none.
+#[tactic(auto, unfolding(crate::specs::Divisors::divisor_from))]
 pub(crate) fn divisor(terms: &[Term]) -> u64
     ensures { result ≡ divisor terms.now }
 {
@@ -32,6 +32,23 @@ pub(crate) fn divisor(terms: &[Term]) -> u64
         rest = later;
     }
     found
+}
+
+/// The greatest common divisor of coefficients within the bound of forms.
+pub(crate) fn signed_divisor(terms: &[Term]) -> i64
+    requires { IsTrue (all_within terms.now) }
+    ensures { result ≡ pos (divisor terms.now) }
+{
+    let common = divisor(terms);
+    signed(common)
+}
+
+// The number with a sign.
+fn signed(number: u64) -> i64
+    requires { number < 2 ^ 62 }
+    ensures { result ≡ pos number }
+{
+    number as i64
 }
 
 /// What two rows are multiplied by, so that a variable goes out of their sum.
@@ -51,7 +68,7 @@ fn part_of(number: u64, by: u64) -> i64
 }
 
 /// The multipliers for coefficients of these magnitudes and different signs.
-pub(crate) fn multipliers(first: u64, second: u64) -> Multipliers
+pub(crate) fn multipliers_for(first: u64, second: u64) -> Multipliers
     requires first { first < 2 ^ 62 }
     requires second { second < 2 ^ 62 }
     ensures first { result.first ≡ first_by first second }

@@ -10,12 +10,12 @@ use crate::reduced::Reduced;
 use crate::row::SystemRow;
 use crate::source::Source;
 use crate::step::Step;
-use crate::stop::Stop;
-use std::alloc::Global;
+use std::alloc::{AllocError, Global};
 use xan_lin::Form;
 
 /// The first system: the hypotheses that bear on the goal, and the opposite of the goal.
-pub(crate) fn first_rows(alloc: Global, vars: &[u32], hyps: &[Form], start: &Form) -> Result<Reduced, Stop>
+#[tactic(auto, unfolding(crate::specs::Elimination::first_rows))]
+pub(crate) fn first_rows(alloc: Global, vars: &[u32], hyps: &[Form], start: &Form) -> Result<Reduced, AllocError>
     requires { length hyps.now ≤ 512 }
     ensures { IfOk result (λ made. made ≡ first_rows vars.now hyps.now start.now) }
 {
@@ -26,7 +26,8 @@ pub(crate) fn first_rows(alloc: Global, vars: &[u32], hyps: &[Form], start: &For
 }
 
 // Puts the hypotheses that bear on the goal.
-fn with_hyps(alloc: Global, vars: &[u32], hyps: &[Form], made: &mut Reduced) -> Result<(), Stop>
+#[tactic(auto, unfolding(crate::specs::Elimination::with_hyps))]
+fn with_hyps(alloc: Global, vars: &[u32], hyps: &[Form], made: &mut Reduced) -> Result<(), AllocError>
     requires { length hyps.now ≤ 512 }
     ensures { OnOk result (made.new ≡ with_hyps vars.now 0 hyps.now made.old) }
 {
@@ -37,7 +38,7 @@ fn with_hyps(alloc: Global, vars: &[u32], hyps: &[Form], made: &mut Reduced) -> 
 }
 
 // Puts the hypothesis of this number, where it bears on the goal.
-fn with_hyp(alloc: Global, vars: &[u32], at: u32, row: &Form, made: &mut Reduced) -> Result<(), Stop>
+fn with_hyp(alloc: Global, vars: &[u32], at: u32, row: &Form, made: &mut Reduced) -> Result<(), AllocError>
     ensures { OnOk result (made.new ≡ (if bears vars.now row.now then settle made.old (tight (New (Hyp at)) row.now) else made.old)) }
 {
     if bears(vars, row) {
@@ -54,7 +55,7 @@ fn bears(vars: &[u32], row: &Form) -> bool
 }
 
 // The tightened row of a form.
-fn row_of(alloc: Global, form: &Form, source: Source) -> Result<SystemRow, Stop>
+fn row_of(alloc: Global, form: &Form, source: Source) -> Result<SystemRow, AllocError>
     ensures { IfOk result (λ row. row ≡ tight source form.now) }
 {
     let terms = Vec::from_slice(alloc, form.terms())?;

@@ -16,10 +16,11 @@ mod next;
 mod numbering;
 mod numbers;
 mod reduced;
-mod refute;
+
 mod rounds;
 mod row;
 mod select;
+mod solver;
 mod source;
 mod step;
 mod stop;
@@ -29,6 +30,6 @@ mod tracing;
 
 pub use crate::answer::{Answer, SOLVER_ROWS};
 pub use crate::line_buf::LineBuf;
-pub use crate::refute::refute;
+pub use crate::solver::refute;
 pub use crate::step::Step;
 pub use xan_lin::Memory;

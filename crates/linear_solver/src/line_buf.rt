@@ -7,7 +7,7 @@ ghost use Rattle.linear_solver.specs.Meaning.{lines_meant, line_meant};
 use crate::step::Step;
 use index_sorts::Context;
 use proof_lines::Line;
-use std::alloc::Global;
+use std::alloc::{AllocError, Global};
 use std::marker::Model;
 use xan_lin::{Form, Memory};
 
@@ -66,14 +66,14 @@ impl LineBuf {
     }
 
     /// Puts a step behind the others and answers its number.
-    pub(crate) fn push(&mut self, step: Step) -> Result<u32, Memory>
+    pub(crate) fn push(&mut self, step: Step) -> Result<u32, AllocError>
         ensures number { IfOk result (λ number. number ≡ length self.old) }
         ensures pushed { OnOk result (self.new ≡ self.old ++ step ∷ []) }
         ensures full { OnErr result (length self.old ≡ 257026) }
     {
         let number = self.steps.len();
         if number >= MOST_STEPS {
-            return Err(Memory);
+            return Err(AllocError);
         }
         let Ok(()) = self.steps.push(step) else {
             unreachable!()
@@ -141,6 +141,7 @@ fn hypothesis(hyps: &[Form], row: u32) -> Form
 }
 
 // The form 0.
+#[tactic(auto, unfolding(xan_lin::specs::Linear::sized, xan_lin::specs::Terms::sum_terms))]
 fn zero_form() -> Form
     ensures { result ≡ zero_form }
 {

@@ -7,7 +7,7 @@ ghost use Rattle.linear_solver.specs.Reducing.{Gives, IsSummed};
 
 use crate::choose::MOST_ROWS;
 use crate::combine::combined;
-use crate::divisors::multipliers;
+use crate::divisors::multipliers_for;
 use crate::numbers::number_combination;
 use crate::reduced::Reduced;
 use crate::row::SystemRow;
@@ -15,10 +15,11 @@ use crate::select::with_sign;
 use crate::source::{Sign, Source};
 use crate::step::Step;
 use crate::stop::Stop;
-use std::alloc::Global;
+use std::alloc::{AllocError, Global};
 use xan_lin::{LimitKind, Term};
 
 /// The next system in place of what was made: the rows without the variable, reduced, and then the sums of two rows in which it goes out.
+#[tactic(auto, unfolding(crate::specs::Systems::next_rows))]
 pub(crate) fn next_rows(alloc: Global, var: u32, rows: &[SystemRow], made: &mut Reduced) -> Result<(), Stop>
     ensures { Gives result made.new (next_rows var rows.now) }
 {
@@ -31,7 +32,8 @@ pub(crate) fn next_rows(alloc: Global, var: u32, rows: &[SystemRow], made: &mut 
 }
 
 // Puts more rows to reduced ones, each tightened.
-fn reduce_onto(alloc: Global, rows: &[SystemRow], made: &mut Reduced) -> Result<(), Stop>
+#[tactic(auto, unfolding(crate::specs::Systems::reduced_onto))]
+fn reduce_onto(alloc: Global, rows: &[SystemRow], made: &mut Reduced) -> Result<(), AllocError>
     ensures { OnOk result (made.new ≡ reduced_onto made.old rows.now) }
 {
     let mut rest = rows;
@@ -43,6 +45,7 @@ fn reduce_onto(alloc: Global, rows: &[SystemRow], made: &mut Reduced) -> Result<
 }
 
 // Puts the sums of each positive row and each negative one to reduced rows.
+#[tactic(auto, unfolding(crate::specs::Systems::with_all_sums))]
 fn with_all_sums(alloc: Global, var: u32, positive: &[SystemRow], negative: &[SystemRow], made: &mut Reduced) -> Result<(), Stop>
     ensures { Gives result made.new (with_all_sums var positive.now negative.now made.old) }
 {
@@ -55,6 +58,7 @@ fn with_all_sums(alloc: Global, var: u32, positive: &[SystemRow], negative: &[Sy
 }
 
 // Puts the sums of one positive row and each negative one to reduced rows.
+#[tactic(auto, unfolding(crate::specs::Systems::with_sums))]
 fn with_sums(alloc: Global, var: u32, positive: &SystemRow, negative: &[SystemRow], made: &mut Reduced) -> Result<(), Stop>
     ensures { Gives result made.new (with_sums var positive.now negative.now made.old) }
 {
@@ -67,6 +71,7 @@ fn with_sums(alloc: Global, var: u32, positive: &SystemRow, negative: &[SystemRo
 }
 
 // Puts the sum of two rows to reduced ones.
+#[tactic(auto, unfolding(crate::specs::Systems::with_sum))]
 fn with_sum(alloc: Global, var: u32, positive: &SystemRow, negative: &SystemRow, made: &mut Reduced) -> Result<(), Stop>
     ensures { Gives result made.new (with_sum var positive.now negative.now made.old) }
 {
@@ -91,10 +96,10 @@ fn limited(made: &Reduced) -> Result<(), Stop>
 }
 
 // The sum of two rows in which the variable goes out, tightened. `None` comes where a number of it is past the bound before that.
-fn summed(alloc: Global, var: u32, positive: &SystemRow, negative: &SystemRow) -> Result<Option<SystemRow>, Stop>
+fn summed(alloc: Global, var: u32, positive: &SystemRow, negative: &SystemRow) -> Result<Option<SystemRow>, AllocError>
     ensures { IfOk result (λ found. IsSummed found (size var positive.now) (size var negative.now) positive.now negative.now) }
 {
-    let by = multipliers(positive.size(var), negative.size(var));
+    let by = multipliers_for(positive.size(var), negative.size(var));
     let Some(constant) = number_combination(&positive.constant(), &by.first, &negative.constant(), &by.second) else {
         return Ok(None);
     };

@@ -6,11 +6,11 @@ use crate::line_buf::LineBuf;
 use crate::row::SystemRow;
 use crate::source::Source;
 use crate::step::Step;
-use crate::stop::Stop;
-use std::alloc::Global;
+use std::alloc::{AllocError, Global};
 
 /// The rows as those that steps give. Each row in order gets its steps in the buffer.
-pub(crate) fn numbered(alloc: Global, rows: &[SystemRow], buf: &mut LineBuf) -> Result<Vec<SystemRow>, Stop>
+#[tactic(auto, unfolding(crate::specs::Numbering::numbered))]
+pub(crate) fn numbered(alloc: Global, rows: &[SystemRow], buf: &mut LineBuf) -> Result<Vec<SystemRow>, AllocError>
     ensures { IfOk result (λ done. numbered buf.old [] rows.now ≡ record { steps = buf.new; rows = done.items }) }
 {
     let mut done = Vec::with_capacity(alloc, rows.len())?;
@@ -24,7 +24,7 @@ pub(crate) fn numbered(alloc: Global, rows: &[SystemRow], buf: &mut LineBuf) -> 
 }
 
 // Puts the steps of a row, and answers the number of the one that gives it.
-fn put_steps(buf: &mut LineBuf, source: Source, by: &i64) -> Result<u32, Stop>
+fn put_steps(buf: &mut LineBuf, source: Source, by: &i64) -> Result<u32, AllocError>
     ensures { IfOk result (λ line. (buf.new ≡ steps_with buf.old source by.now) × (line ≡ line_with buf.old source by.now)) }
 {
     let line = put_source(buf, source)?;
@@ -32,7 +32,7 @@ fn put_steps(buf: &mut LineBuf, source: Source, by: &i64) -> Result<u32, Stop>
 }
 
 // Puts the step of a row, unless it is there.
-fn put_source(buf: &mut LineBuf, source: Source) -> Result<u32, Stop>
+fn put_source(buf: &mut LineBuf, source: Source) -> Result<u32, AllocError>
     ensures { IfOk result (λ line. (buf.new ≡ with_source buf.old source) × (line ≡ source_line buf.old source)) }
 {
     match source {
@@ -42,7 +42,7 @@ fn put_source(buf: &mut LineBuf, source: Source) -> Result<u32, Stop>
 }
 
 // Puts the step that divides a row by a number above 1.
-fn put_cut(buf: &mut LineBuf, line: u32, by: &i64) -> Result<u32, Stop>
+fn put_cut(buf: &mut LineBuf, line: u32, by: &i64) -> Result<u32, AllocError>
     ensures { IfOk result (λ number. (buf.new ≡ with_cut buf.old line by.now) × (number ≡ cut_line buf.old line by.now)) }
 {
     if *by > 1 {

@@ -1,12 +1,11 @@
 // A reduced list of rows in the making.
-ghost use Rattle.std.specs.Prelude.{◌≡◌, ◌<◌, ◌↔◌, [], ◌∷◌, ◌++◌, length, IsTrue, IfOk, OnOk, OnSome, MatchOption, None, Some, slice_get, slice_set, true};
-ghost use Rattle.std.specs.List.{position, slice_index_or};
+ghost use Rattle.std.specs.Prelude.{◌≡◌, ◌<◌, ◌↔◌, [], ◌∷◌, ◌++◌, length, IsTrue, IfOk, OnOk, OnSome, MatchOption, None, Some, slice_get, slice_set, true, false};
+ghost use Rattle.std.specs.List.{position, list_any, slice_index_or};
 ghost use Rattle.linear_solver.specs.Systems.{Row, same_terms, settle, placed, lesser};
-ghost use Rattle.linear_solver.specs.Reducing.{AreDistinct};
+ghost use Rattle.linear_solver.specs.Reducing.{AreDistinct, IsPlace};
 
 use crate::row::SystemRow;
-use crate::stop::Stop;
-use std::alloc::Global;
+use std::alloc::{AllocError, Global};
 use std::marker::Model;
 use xan_lin::Term;
 
@@ -35,7 +34,7 @@ impl Model for Reduced {
 
 impl Reduced {
     /// No rows.
-    pub(crate) fn new(alloc: Global) -> Result<Reduced, Stop>
+    pub(crate) fn new(alloc: Global) -> Result<Reduced, AllocError>
         ensures { IfOk result (λ reduced. reduced ≡ []) }
     {
         Ok(Reduced {
@@ -60,7 +59,7 @@ impl Reduced {
 
     /// Puts a row behind the others, or in place of the one with equal coefficients where its constant is less. A row that holds in any
     /// case is dropped.
-    pub(crate) fn settle(&mut self, row: SystemRow) -> Result<(), Stop>
+    pub(crate) fn settle(&mut self, row: SystemRow) -> Result<(), AllocError>
         ensures { OnOk result (self.new ≡ settle self.old row) }
     {
         if row.holds() {
@@ -73,7 +72,8 @@ impl Reduced {
                 lower(&mut self.rows, place, row);
             }
             None => {
-                self.hint(hint, self.rows.len());
+                let place = self.rows.len();
+                self.hint(hint, place);
                 self.rows.push(row)?;
             }
         }
@@ -83,7 +83,7 @@ impl Reduced {
     // The place of the row with these coefficients. Where the guess is wrong all rows are looked through; each search that finds none
     // makes the list longer, so that there are few.
     fn place_of_equal(&self, terms: &[Term], hint: usize) -> Option<usize>
-        ensures { result ≡ position (λ row. same_terms row.terms terms.now) self.now }
+        ensures { MatchOption result (list_any (λ row. same_terms row.terms terms.now) self.now ≡ false) (λ place. IsPlace self.now terms.now place) }
     {
         let rows = self.rows.as_slice();
         if let Some(guess) = self.hints.get(hint) {
@@ -98,14 +98,17 @@ impl Reduced {
     fn hint(&mut self, hint: usize, place: usize)
         ensures { self.new ≡ self.old }
     {
+        let Ok(place) = u32::try_from(place) else {
+            return;
+        };
         if let Some(guess) = self.hints.get_mut(hint) {
-            *guess = place as u32;
+            *guess = place;
         }
     }
 }
 
 // So many guesses, all of the first place.
-fn no_hints(alloc: Global) -> Result<Vec<u32>, Stop> {
+fn no_hints(alloc: Global) -> Result<Vec<u32>, AllocError> {
     Ok(vec![in alloc; 0; HINTS]?)
 }
 
@@ -135,7 +138,7 @@ fn are_same(left: &[Term], right: &[Term]) -> bool
 
 // Whether the row at this place has these coefficients.
 fn is_at(rows: &[SystemRow], place: usize, terms: &[Term]) -> bool
-    ensures { IsTrue result → (place < length rows.now) × ((d : Row) → same_terms (slice_index_or rows.now place d).terms terms.now ≡ true) }
+    ensures { IsTrue result → IsPlace rows.now terms.now place }
 {
     match rows.get(place) {
         Some(row) => are_same(row.terms(), terms),

@@ -8,11 +8,10 @@ ghost use Rattle.linear_solver.specs.Systems.{tight, holds, has_sign, is_sign, c
 ghost use Rattle.linear_solver.specs.Choosing.{cannot_hold};
 ghost use Rattle.linear_solver.specs.Numbering.{at_line};
 
-use crate::divisors::divisor;
+use crate::divisors::signed_divisor;
 use crate::numbers::number_floor;
 use crate::source::{Sign, Source};
-use crate::stop::Stop;
-use std::alloc::Global;
+use std::alloc::{AllocError, Global};
 use std::marker::Model;
 use xan_lin::Term;
 
@@ -38,13 +37,14 @@ impl Model for SystemRow {
 
 impl SystemRow {
     /// The tightened row of these terms and this constant.
-    pub(crate) fn tight(alloc: Global, terms: Vec<Term>, constant: &i64, source: Source) -> Result<SystemRow, Stop>
+    #[tactic(auto, unfolding(crate::specs::Systems::tight))]
+    pub(crate) fn tight(alloc: Global, terms: Vec<Term>, constant: &i64, source: Source) -> Result<SystemRow, AllocError>
         requires rising { IsRising 0 terms.items }
         requires small { IsTrue (all_within terms.items) }
         ensures { IfOk result (λ row. row ≡ tight source (record { terms = terms.items; constant = constant.now })) }
     {
-        let common = divisor(terms.as_slice());
-        if common <= 1 {
+        let by = signed_divisor(terms.as_slice());
+        if by <= 1 {
             return Ok(SystemRow {
                 terms,
                 constant: *constant,
@@ -52,7 +52,6 @@ impl SystemRow {
                 by: 1,
             });
         }
-        let by = common as i64;
         let divided = divided(alloc, terms.as_slice(), &by)?;
         Ok(SystemRow {
             terms: divided,
@@ -63,7 +62,7 @@ impl SystemRow {
     }
 
     /// The same row, tightened again.
-    pub(crate) fn again(&self, alloc: Global) -> Result<SystemRow, Stop>
+    pub(crate) fn again(&self, alloc: Global) -> Result<SystemRow, AllocError>
         ensures { IfOk result (λ row. row ≡ tight self.now.source (linear_of self.now)) }
     {
         let terms = Vec::from_slice(alloc, self.terms.as_slice())?;
@@ -71,7 +70,7 @@ impl SystemRow {
     }
 
     /// An equal row.
-    pub(crate) fn copy(&self, alloc: Global) -> Result<SystemRow, Stop>
+    pub(crate) fn copy(&self, alloc: Global) -> Result<SystemRow, AllocError>
         ensures { IfOk result (λ row. row ≡ self.now) }
     {
         Ok(SystemRow {
@@ -83,7 +82,7 @@ impl SystemRow {
     }
 
     /// The row as one that the step of this number gives.
-    pub(crate) fn at_line(&self, alloc: Global, line: u32) -> Result<SystemRow, Stop>
+    pub(crate) fn at_line(&self, alloc: Global, line: u32) -> Result<SystemRow, AllocError>
         ensures { IfOk result (λ row. row ≡ at_line line self.now) }
     {
         Ok(SystemRow {
@@ -165,6 +164,7 @@ impl SystemRow {
 }
 
 // The coefficient of the variable.
+#[tactic(auto, unfolding(crate::specs::Systems::coefficient))]
 fn coefficient(terms: &[Term], var: u32) -> i64
     ensures { result ≡ coefficient var terms.now }
 {
@@ -199,7 +199,7 @@ fn is_sign(sign: Sign, number: &i64) -> bool
 }
 
 // The terms with their coefficients over a divisor.
-fn divided(alloc: Global, terms: &[Term], by: &i64) -> Result<Vec<Term>, Stop>
+fn divided(alloc: Global, terms: &[Term], by: &i64) -> Result<Vec<Term>, AllocError>
     requires { IsTrue (is_positive by.now) }
     ensures { IfOk result (λ made. made.items ≡ map (divided_term by.now) terms.now) }
 {

@@ -4,11 +4,11 @@ ghost use Rattle.linear_solver.specs.Systems.{with_sign};
 
 use crate::row::SystemRow;
 use crate::source::Sign;
-use crate::stop::Stop;
-use std::alloc::Global;
+use std::alloc::{AllocError, Global};
 
 /// Copies of the rows in which the coefficient of the variable has this sign, in order.
-pub(crate) fn with_sign(alloc: Global, rows: &[SystemRow], sign: Sign, var: u32) -> Result<Vec<SystemRow>, Stop>
+#[tactic(auto, unfolding(crate::specs::Systems::with_sign))]
+pub(crate) fn with_sign(alloc: Global, rows: &[SystemRow], sign: Sign, var: u32) -> Result<Vec<SystemRow>, AllocError>
     ensures { IfOk result (λ made. made.items ≡ with_sign sign var rows.now) }
 {
     let mut made = Vec::new(alloc);
@@ -21,6 +21,7 @@ pub(crate) fn with_sign(alloc: Global, rows: &[SystemRow], sign: Sign, var: u32)
 }
 
 /// How many rows these are.
+#[tactic(auto, unfolding(crate::specs::Systems::with_sign))]
 pub(crate) fn count_with_sign(rows: &[SystemRow], sign: Sign, var: u32) -> usize
     ensures { result ≡ length (with_sign sign var rows.now) }
 {

@@ -1,6 +1,6 @@
 // Why a pass over rows ends early.
-use std::alloc::{AllocError, AllocFailed};
-use xan_lin::{LimitKind, Memory};
+use std::alloc::AllocError;
+use xan_lin::LimitKind;
 
 /// Why a pass over rows ends early.
 #[derive(Clone, Copy, Debug, Drop)]
@@ -18,28 +18,6 @@ impl From<AllocError> for Stop {
     ghost from_gives = { λ _ e. e ≡ stop.Memory };
 
     fn from(_error: AllocError) -> Stop {
-        Stop::Memory
-    }
-}
-
-impl<T: Drop> From<AllocFailed<T>> for Stop {
-    ghost use Rattle.std.specs.Prelude.{◌≡◌};
-    ghost use Rattle.linear_solver.specs.declared.stop.Stop.TheVariants as stop;
-
-    ghost from_gives = { λ _ e. e ≡ stop.Memory };
-
-    fn from(_error: AllocFailed<T>) -> Stop {
-        Stop::Memory
-    }
-}
-
-impl From<Memory> for Stop {
-    ghost use Rattle.std.specs.Prelude.{◌≡◌};
-    ghost use Rattle.linear_solver.specs.declared.stop.Stop.TheVariants as stop;
-
-    ghost from_gives = { λ _ e. e ≡ stop.Memory };
-
-    fn from(_error: Memory) -> Stop {
         Stop::Memory
     }
 }

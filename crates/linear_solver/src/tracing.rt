@@ -1,15 +1,14 @@
 // The steps from which one of them is made, counted anew.
-ghost use Rattle.std.specs.Prelude.{◌≡◌, ◌≤◌, ◌^◌, ◌<◌, [], ◌∷◌, ◌++◌, length, replicate, slice_set, true, false, IfOk};
+ghost use Rattle.std.specs.Prelude.{◌≡◌, ◌+◌, take, ◌≤◌, ◌^◌, ◌<◌, [], ◌∷◌, ◌++◌, length, replicate, slice_set, true, false, IfOk};
 ghost use Rattle.std.specs.List.{slice_index_or};
 ghost use Rattle.linear_solver.specs.Tracing.{with_marks, marked_at, marked_below, needed, renumbered, kept_onto, traced};
 
 use crate::line_buf::LineBuf;
 use crate::step::Step;
-use crate::stop::Stop;
-use std::alloc::Global;
+use std::alloc::{AllocError, Global};
 
 /// Leaves the steps from which the step of this number is made.
-pub(crate) fn trace(alloc: Global, line: u32, buf: &mut LineBuf) -> Result<(), Stop>
+pub(crate) fn trace(alloc: Global, line: u32, buf: &mut LineBuf) -> Result<(), AllocError>
     ensures { IfOk result (λ _. buf.new ≡ traced buf.old line) }
 {
     let kept = traced(alloc, buf.steps(), line)?;
@@ -18,17 +17,28 @@ pub(crate) fn trace(alloc: Global, line: u32, buf: &mut LineBuf) -> Result<(), S
 }
 
 // The steps from which the step of this number is made.
-fn traced(alloc: Global, steps: &[Step], line: u32) -> Result<Vec<Step>, Stop>
+#[tactic(auto, unfolding(crate::specs::Tracing::traced))]
+fn traced(alloc: Global, steps: &[Step], line: u32) -> Result<Vec<Step>, AllocError>
     requires { length steps.now ≤ 257026 }
     ensures exact { IfOk result (λ kept. kept.items ≡ traced steps.now line) }
     ensures few { IfOk result (λ kept. length kept.items ≤ 257026) }
 {
-    let marks = needed(alloc, steps, line)?;
-    kept(alloc, steps, marks.as_slice())
+    let front = up_to(steps, line);
+    let marks = needed(alloc, front, line)?;
+    kept(alloc, front, marks.as_slice())
+}
+
+// The steps up to that of this number.
+fn up_to(steps: &[Step], line: u32) -> &[Step]
+    ensures { result.now ≡ take (line + 1) steps.now }
+{
+    let count = steps.len().min(line as usize + 1);
+    &steps[..count]
 }
 
 // The marks of the steps that are needed.
-fn needed(alloc: Global, steps: &[Step], line: u32) -> Result<Vec<bool>, Stop>
+#[tactic(auto, unfolding(crate::specs::Tracing::marked_below))]
+fn needed(alloc: Global, steps: &[Step], line: u32) -> Result<Vec<bool>, AllocError>
     ensures { IfOk result (λ marks. marks.items ≡ needed steps.now line) }
 {
     let mut marks = vec![in alloc; false; steps.len()]?;
@@ -85,7 +95,8 @@ fn mark(marks: &mut Vec<bool>, at: u32)
 }
 
 // The marked steps, counted anew.
-fn kept(alloc: Global, steps: &[Step], marks: &[bool]) -> Result<Vec<Step>, Stop>
+#[tactic(auto, unfolding(crate::specs::Tracing::kept_onto))]
+fn kept(alloc: Global, steps: &[Step], marks: &[bool]) -> Result<Vec<Step>, AllocError>
     requires { length steps.now ≤ 257026 }
     ensures exact { IfOk result (λ kept. kept.items ≡ kept_onto [] [] marks.now steps.now) }
     ensures few { IfOk result (λ kept. length kept.items ≤ 257026) }

@@ -1,6 +1,6 @@
 // The limits, from both sides.
 use crate::Answer;
-use crate::tests::run::{add, shown};
+use crate::tests::run::{add, run_of};
 use index_sorts::Context;
 use std::alloc::Global;
 use std::test::Fail;
@@ -31,7 +31,7 @@ fn chain_answer(alloc: Global, vars: u32) -> Option<Answer> {
         return None;
     }
     let context = chain(alloc, vars)?;
-    let shown = shown(alloc, &context, &difference(0, vars - 1)?, b"")?;
+    let shown = run_of(alloc, &context, &difference(0, vars - 1)?, b"")?;
     if shown.answer == Answer::Proved && !shown.accepted {
         return None;
     }
@@ -68,7 +68,7 @@ fn curve_answer(alloc: Global, positive: i64, negative: i64) -> Option<Answer> {
     for k in 1..=negative {
         add(&mut context, curve(k, -1)?)?;
     }
-    let shown = shown(alloc, &context, &Form::variable(0), b"")?;
+    let shown = run_of(alloc, &context, &Form::variable(0), b"")?;
     Some(shown.answer)
 }
 

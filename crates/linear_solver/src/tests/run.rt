@@ -69,7 +69,7 @@ fn text_of(alloc: Global, lines: &[Line]) -> Option<Vec<u8>> {
 }
 
 /// What the solver shows of a goal over a context; `wanted` is the text of its lines, or nothing where any will do.
-pub(crate) fn shown(alloc: Global, context: &Context, goal: &Form, wanted: &[u8]) -> Option<Shown> {
+pub(crate) fn run_of(alloc: Global, context: &Context, goal: &Form, wanted: &[u8]) -> Option<Shown> {
     let mut pool = RowPool::new(alloc, 4001, 65).ok()?;
     let mut buf = LineBuf::new(alloc).ok()?;
     let answer = refute(alloc, &mut pool, context, goal, &mut buf).ok()?;
@@ -100,7 +100,7 @@ pub(crate) fn runs_as(
 ) -> Option<bool> {
     let context = context_of(alloc, rows)?;
     let goal = form_of(alloc, goal)?;
-    let shown = shown(alloc, &context, &goal, wanted)?;
+    let shown = run_of(alloc, &context, &goal, wanted)?;
     let accepted = shown.accepted == (answer == Answer::Proved);
     Some(shown.answer == answer && accepted && shown.as_written)
 }

@@ -34,6 +34,7 @@ pub fn refute(alloc: Global, pool: &mut RowPool, ctx: &Context, goal: &Form, buf
 }
 
 // The elimination, which may stop at a limit.
+#[tactic(auto, unfolding(crate::specs::Elimination::refutation))]
 fn eliminated(alloc: Global, ctx: &Context, goal: &Form, buf: &mut LineBuf) -> Result<Answer, Stop>
     ensures { Answers result buf.new (refutation ctx.now.rows goal.now) }
 {
