@@ -4,5 +4,7 @@ pub mod Sums
 pub mod Distinct
 pub mod Dividing
 pub mod Tightening
+pub mod Reaching
+pub mod Rounding
 pub mod Given
 pub mod Sourced

@@ -171,7 +171,7 @@ nothing : (a b : ℤ) → combined_terms a [] b [] ≡ []
 unfolding scaled_terms sum_terms
 nothing a b = refl
 
-pub combines_all : (made : List Term) (a : ℤ) (xs : List Term) (b : ℤ) (ys whole : List Term) → Combining made a xs b ys whole → length xs ≡ 0 → length ys ≡ 0
+combines_all : (made : List Term) (a : ℤ) (xs : List Term) (b : ℤ) (ys whole : List Term) → Combining made a xs b ys whole → length xs ≡ 0 → length ys ≡ 0
     → (made ≡ whole) × (all_within made ≡ true)
 combines_all made a [] b [] whole m h k = (sym (append-nil made) ∙ ap (λ ts. made ++ ts) (sym (nothing a b)) ∙ m.same, m.small)
 combines_all made a (x ∷ xs) b ys whole m h k = absurd (omega arith)
@@ -227,3 +227,11 @@ some_left b xs ys e t = is_less 0 (length xs + length ys) (sym e ∙ t)
 
 pub none_left : (b : Bool) (xs ys : List Term) → b ≡ nat_lt 0 (length xs + length ys) → b ≡ false → (length xs ≡ 0) × (length ys ≡ 0)
 none_left b xs ys e f = let h = is_not_less 0 (length xs + length ys) (sym e ∙ f) in (omega arith, omega arith)
+
+pub combined_is : (made : List Term) (a : ℤ) (left xs : List Term) (b : ℤ) (right ys : List Term) → IsRising 0 left → IsRising 0 right
+    → Combining made a xs b ys (combined_terms a left b right) → length xs ≡ 0 → length ys ≡ 0
+    → (made ≡ combined_terms a left b right) × (all_within made ≡ true) × IsRising 0 made
+combined_is made a left xs b right ys r s m h k =
+    let all = combines_all made a xs b ys (combined_terms a left b right) m h k in
+    (all.0, all.1, subst (λ (ts : List Term). IsRising 0 ts) (sym all.0)
+    (IsRising-sum 0 (scaled_terms left a) (scaled_terms right b) (IsRising-scaled 0 left a r) (IsRising-scaled 0 right b s)))

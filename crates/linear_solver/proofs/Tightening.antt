@@ -1,5 +1,5 @@
 -- The terms of a tightened row rise and stay within the bound.
-use Rattle.std.proofs.Common.{◌≡◌, ℕ, zero, suc, ◌<◌, ℤ, pos, negsuc, ◌<ℤ◌, Bool, true, ◌&&◌, nat_lt, List, [], map, refl, sym, ◌∙◌, ap, subst, arith}
+use Rattle.std.proofs.Common.{◌≡◌, ℕ, zero, suc, ◌<◌, ℤ, pos, negsuc, ◌<ℤ◌, Bool, true, false, int_le, ◌&&◌, nat_lt, List, [], map, refl, sym, ◌∙◌, ap, subst, arith}
 use Rattle.std.proofs.lemmas.Int.{ints}
 use Rattle.xan_lin.specs.Terms.{IsRising}
 use Rattle.xan_lin.specs.Linear.{Linear, is_within, all_within}
@@ -15,6 +15,9 @@ use Rattle.linear_solver.specs.Merging.{IsRow}
 use Rattle.linear_solver.specs.Systems.{Row}
 use Rattle.linear_solver.specs.declared.source.Source.{Source}
 use Rattle.linear_solver.proofs.Dividing.{divisor-divides}
+
+pub not_one : (n : ℤ) → int_le n (pos 1) ≡ false → pos 1 <ℤ n
+not_one n e = grind (arith, ints)
 
 above : (g : ℕ) → pos 1 <ℤ pos g → (1 < g) × (is_positive (pos g) ≡ true)
 above g h = (omega (arith, ints), grind (arith, ints))

@@ -74,7 +74,7 @@ pub(crate) fn combined(
     requires first { unsigned_abs by.now.first < 2 ^ 63 }
     requires second { unsigned_abs by.now.second < 2 ^ 63 }
     ensures { IfOk result (λ found. MatchOption found (all_within (combined_terms by.now.first left.now by.now.second right.now) ≡ false)
-        (λ made. (made.items ≡ combined_terms by.now.first left.now by.now.second right.now) × (all_within made.items ≡ true))) }
+        (λ made. (made.items ≡ combined_terms by.now.first left.now by.now.second right.now) × (all_within made.items ≡ true) × IsRising 0 made.items)) }
 {
     let mut made = Vec::with_capacity(alloc, left.len() + right.len())?;
     let mut xs = left;

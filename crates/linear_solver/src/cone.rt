@@ -25,7 +25,7 @@ pub(crate) fn cone(alloc: Global, hyps: &[Form], start: &Form) -> Result<Option<
         let before = vars.len();
         reach(&mut vars, hyps)?;
         if vars.len() == before {
-            break;
+            return Ok(few(vars));
         }
     }
     Ok(few(vars))

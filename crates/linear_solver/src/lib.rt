@@ -11,6 +11,7 @@ mod combine;
 mod cone;
 mod divisors;
 mod first;
+mod laws;
 mod line_buf;
 mod next;
 mod numbering;
@@ -29,6 +30,7 @@ mod tests;
 mod tracing;
 
 pub use crate::answer::{Answer, SOLVER_ROWS};
+pub use crate::laws::{proved_goals_are_entailed, steps_mean_a_proof};
 pub use crate::line_buf::LineBuf;
 pub use crate::solver::refute;
 pub use crate::step::Step;

@@ -110,8 +110,9 @@ fn kept(alloc: Global, steps: &[Step], marks: &[bool]) -> Result<Vec<Step>, Allo
             return Ok(kept);
         };
         if *mark {
+            let step = renumbered(numbers.as_slice(), step);
             numbers.push(kept.len() as u32)?;
-            kept.push(renumbered(numbers.as_slice(), step))?;
+            kept.push(step)?;
         } else {
             numbers.push(0u32)?;
         }

@@ -2,7 +2,7 @@ use Rattle.std.proofs.Common.{rules, w64, FitsSigned, ◌∙◌, ap, arith, pos,
 use Rattle.std.proofs.lemmas.Int.{to_z-of_z}
 use Rattle.std.proofs.lemmas.Bool.Decides.{nat_tests}
 use Rattle.xan_lin.specs.Linear.{is_within}
-use Rattle.linear_solver.proofs.Sums.{combines_past, combines_more, combines_all, fewer, starts, some_left, none_left}
+use Rattle.linear_solver.proofs.Sums.{combines_past, combines_more, combined_is, fewer, starts, some_left, none_left}
 use Rattle.linear_solver.proofs.combine.combined.Goals as goal
 
 pub terms-init : goal.terms-init
@@ -35,4 +35,4 @@ terms-preserved c =
 pub returns : goal.returns
 returns c =
     let none = none_left _ _ _ c.are_left.ensures c.terms-test.false in
-    combines_all _ _ _ _ _ _ c.terms.invariant none.0 none.1
+    combined_is _ _ _ _ _ _ _ c.requires.left_rises c.requires.right_rises c.terms.invariant none.0 none.1
