@@ -6,5 +6,9 @@ pub mod Dividing
 pub mod Tightening
 pub mod Reaching
 pub mod Rounding
+pub mod Closing
+pub mod Counting
 pub mod Given
 pub mod Sourced
+pub mod Refuting
+pub mod Marking

@@ -9,9 +9,9 @@ use Rattle.proof_lines.proofs.Growing.{with_terms-none, with_terms-cons}
 use Rattle.linear_solver.specs.Cone.{touches, reached, reached_in, cone}
 
 -- the list with some behind it
-record Grows (old new : List ℕ) : Type 0 where
-  more : List ℕ
-  is : new ≡ old ++ more
+pub record Grows (old new : List ℕ) : Type 0 where
+  pub more : List ℕ
+  pub is : new ≡ old ++ more
 
 same_grows : (vs : List ℕ) → Grows vs vs
 same_grows vs = record { more = []; is = sym (append-nil vs) }
@@ -31,34 +31,34 @@ terms-grow vs [] = subst (Grows vs) (sym (with_terms-none vs)) (same_grows vs)
 terms-grow vs (t ∷ ts) = subst (Grows vs) (sym (with_terms-cons vs t ts))
     (join_grows vs (with_variable vs t.var) (with_terms (with_variable vs t.var) ts) (variable-grows vs t.var) (terms-grow (with_variable vs t.var) ts))
 
-row-grows : (vs : List ℕ) (ts : List Term) → Grows vs (cond (touches vs ts) (with_terms vs ts) vs)
+pub row-grows : (vs : List ℕ) (ts : List Term) → Grows vs (cond (touches vs ts) (with_terms vs ts) vs)
 row-grows vs ts = go (touches vs ts)
   where
     go : (b : Bool) → Grows vs (cond b (with_terms vs ts) vs)
     go true = terms-grow vs ts
     go false = same_grows vs
 
-walk-grows : (vs : List ℕ) (rows : List Linear) → Grows vs (reached vs rows)
+pub walk-grows : (vs : List ℕ) (rows : List Linear) → Grows vs (reached vs rows)
 unfolding reached
 walk-grows vs [] = same_grows vs
 walk-grows vs (row ∷ rows) =
     join_grows vs (cond (touches vs row.terms) (with_terms vs row.terms) vs) (reached (cond (touches vs row.terms) (with_terms vs row.terms) vs) rows)
     (row-grows vs row.terms) (walk-grows (cond (touches vs row.terms) (with_terms vs row.terms) vs) rows)
 
-walks-grow : (n : ℕ) (vs : List ℕ) (rows : List Linear) → Grows vs (reached_in n vs rows)
+pub walks-grow : (n : ℕ) (vs : List ℕ) (rows : List Linear) → Grows vs (reached_in n vs rows)
 unfolding reached_in
 walks-grow zero vs rows = same_grows vs
 walks-grow (suc n) vs rows = join_grows vs (reached vs rows) (reached_in n (reached vs rows) rows) (walk-grows vs rows) (walks-grow n (reached vs rows) rows)
 
 -- a walk that finds none leaves the list
-nothing_more : (old new : List ℕ) → Grows old new → length new ≡ length old → new ≡ old
+pub nothing_more : (old new : List ℕ) → Grows old new → length new ≡ length old → new ≡ old
 nothing_more old new g e = go g.more (sym (length-append old g.more) ∙ ap length (sym g.is) ∙ e) g.is
   where
     go : (more : List ℕ) → length old + length more ≡ length old → new ≡ old ++ more → new ≡ old
     go [] f is = is ∙ append-nil old
     go (v ∷ more) f is = absurd (omega arith)
 
-stays : (n : ℕ) (vs : List ℕ) (rows : List Linear) → reached vs rows ≡ vs → reached_in n vs rows ≡ vs
+pub stays : (n : ℕ) (vs : List ℕ) (rows : List Linear) → reached vs rows ≡ vs → reached_in n vs rows ≡ vs
 unfolding reached_in
 stays zero vs rows e = refl
 stays (suc n) vs rows e = ap (λ ws. reached_in n ws rows) e ∙ stays n vs rows e

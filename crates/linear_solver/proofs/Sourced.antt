@@ -72,12 +72,12 @@ module _ (hyps : List Linear) (goal : Linear) (vars : List ℕ) where
   placed-sourced : (rows : List Linear) (made : List Row) (r : Row) → AreSourced rows made → Sourced rows r → AreSourced rows (placed made r)
   unfolding placed
   placed-sourced rows [] r a s = (s, tt)
-  placed-sourced rows (m ∷ made) r a s = go (same_terms m.terms r.terms) (int_lt r.constant m.constant)
+  placed-sourced rows (m ∷ made) r a s = go (same_terms m.terms r.terms) (int_lt r.constant m.constant) (placed-sourced rows made r a.1 s)
     where
-      go : (b c : Bool) → AreSourced rows (cond b (cond c r m ∷ made) (m ∷ placed made r))
-      go true true = (s, a.1)
-      go true false = a
-      go false c = (a.0, placed-sourced rows made r a.1 s)
+      go : (b c : Bool) → AreSourced rows (placed made r) → AreSourced rows (cond b (cond c r m ∷ made) (m ∷ placed made r))
+      go true true later = (s, a.1)
+      go true false later = a
+      go false c later = (a.0, later)
 
   pub settle-sourced : (rows : List Linear) (made : List Row) (r : Row) → AreSourced rows made → Sourced rows r → AreSourced rows (settle made r)
   unfolding settle
