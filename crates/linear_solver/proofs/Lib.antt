@@ -12,3 +12,4 @@ pub mod Given
 pub mod Sourced
 pub mod Refuting
 pub mod Marking
+pub mod Keeping
