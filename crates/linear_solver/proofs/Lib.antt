@@ -13,3 +13,4 @@ pub mod Sourced
 pub mod Refuting
 pub mod Marking
 pub mod Keeping
+pub mod Proving

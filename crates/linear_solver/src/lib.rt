@@ -11,6 +11,7 @@ mod combine;
 mod cone;
 mod divisors;
 mod first;
+mod forms;
 mod laws;
 mod line_buf;
 mod next;

@@ -1,6 +1,5 @@
-use Rattle.linear_solver.proofs.Refuting.{rounds-refute, first-sourced}
-use Rattle.linear_solver.proofs.Keeping.{traced-proves}
+use Rattle.linear_solver.proofs.Proving.{proved-proves}
 use Rattle.linear_solver.proofs.laws.steps_mean_a_proof.Goals as goal
 
 pub returns : goal.returns
-returns c = let f = rounds-refute in let g = first-sourced in let h = traced-proves in ?
+returns c hyps goal forms form proved = proved-proves hyps goal forms form proved
