@@ -23,6 +23,7 @@ use Rattle.linear_solver.specs.Numbering.{System, numbered}
 use Rattle.linear_solver.specs.Cone.{cone}
 use Rattle.linear_solver.specs.Elimination.{ended, after_look, after_rows, rounds, first_rows, in_cone, from_start, refutation, answer_of, steps_of, elimination, proof_steps}
 use Rattle.linear_solver.specs.Meaning.{lines_meant}
+use Rattle.linear_solver.specs.Solving.{Answers}
 use Rattle.linear_solver.proofs.Closing.{cone-closed, cone-start}
 use Rattle.linear_solver.proofs.Sourced.{numbers}
 use Rattle.linear_solver.proofs.Refuting.{first-sourced, rounds-refute}
@@ -120,3 +121,9 @@ module _ (hyps : List Linear) (goal : Linear) (forms : All IsForm hyps) (form : 
       go : (r : Result (List Step) Answer) → refutation hyps goal ≡ r → answer_of r ≡ Proved → LinesProve hyps goal (lines_meant hyps (steps_of r))
       go (Ok out) f k = refutation-proves out f
       go (Err answer) f k = absurd (never hyps goal (f ∙ ap Err k))
+
+  -- what the code answers, where it is Proved
+  pub answers_prove : (answer : Answer) (steps : List Step) → Answers (Ok answer) steps (refutation hyps goal) → answer ≡ Proved → LinesProve hyps goal (lines_meant hyps steps)
+  answers_prove Proved steps a e = refutation-proves steps a
+  answers_prove Unproved steps a e = cc
+  answers_prove (Limit kind) steps a e = cc

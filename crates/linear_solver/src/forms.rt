@@ -4,16 +4,18 @@ ghost use Rattle.xan_lin.specs.Linear.{IsForm};
 
 use xan_lin::Form;
 
-/// Tells of rows that each keeps what every form does; it computes nothing.
+/// Tells of rows that each keeps what every form does.
 pub(crate) fn tell_forms(rows: &[Form])
     ensures { All IsForm rows.now }
 {
-    let _count = rows.len();
+    'rows: for row in rows {
+        tell_form(row);
+    }
 }
 
-/// Tells of a form that it keeps what every form does; it computes nothing.
+/// Tells of a form that it keeps what every form does.
 pub(crate) fn tell_form(form: &Form)
     ensures { IsForm form.now }
 {
-    let _constant = form.constant_part();
+    let _terms = form.terms();
 }
