@@ -119,10 +119,11 @@ unfolding reached
 closed_fixed vs [] e = tt
 closed_fixed vs (row ∷ rows) e =
     let next = cond (touches vs row.terms) (with_terms vs row.terms) vs in
-    let same : next ≡ vs = between vs next (reached next rows) (row-grows vs row.terms) (walk-grows next rows) e in
-    (λ t. (let all : with_terms vs row.terms ≡ vs = ap (λ b. cond b (with_terms vs row.terms) vs) (sym t) ∙ same in
-        ap (λ ws. are_among ws row.terms) (sym all) ∙ placed-with_terms vs row.terms),
-    closed_fixed vs rows (ap (λ ws. reached ws rows) (sym same) ∙ e))
+    let same : next ≡ vs = between vs next (reached next rows) (row-grows vs row.terms) (walk-grows next rows) e in (
+      λ t. (let all : with_terms vs row.terms ≡ vs = ap (λ b. cond b (with_terms vs row.terms) vs) (sym t) ∙ same in
+          ap (λ ws. are_among ws row.terms) (sym all) ∙ placed-with_terms vs row.terms),
+      closed_fixed vs rows (ap (λ ws. reached ws rows) (sym same) ∙ e),
+    )
 
 inside-most : (vs : List ℕ) (rows : List Linear) → inside vs rows ≤ length rows
 unfolding inside one_if

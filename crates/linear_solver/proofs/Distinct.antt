@@ -10,7 +10,6 @@ use Rattle.proof_lines.proofs.Positions.{position_passes, is_some-position}
 use Rattle.linear_solver.specs.Systems.{Row, same_terms, lesser, placed, holds, settle}
 use Rattle.linear_solver.specs.Reducing.{AreDistinct, IsPlace}
 
-
 pub equal_terms : (ts us : List Term) → same_terms ts us ≡ true → ts ≡ us
 equal_terms ts us e =
     let x : Linear = record { terms = ts; constant = pos 0 } in
@@ -22,7 +21,6 @@ terms_equal ts us e =
     let x : Linear = record { terms = ts; constant = pos 0 } in
     let y : Linear = record { terms = us; constant = pos 0 } in
     (Decides-same_form x y).1 (ap (λ vs. let z : Linear = record { terms = vs; constant = pos 0 } in z) e)
-
 
 either_false : (a b : Bool) → (a || b) ≡ false → (a ≡ false) × (b ≡ false)
 either_false true b e = cc
@@ -153,9 +151,10 @@ settles_new rows old after r ts b h f same e none change =
 
 place_in : (rows old : List Row) (r : Row) (ts : List Term) (k : ℕ) → rows ≡ old → ts ≡ r.terms → IsPlace old ts k
     → (k < length rows) × (same_terms (get_or rows k r).terms r.terms ≡ true)
-place_in rows old r ts k same e p =
-    (omega (arith, p.0, ap length same),
-    ap (λ rs. same_terms (get_or rs k r).terms r.terms) same ∙ ap (λ us. same_terms (get_or old k r).terms us) (sym e) ∙ p.1 r)
+place_in rows old r ts k same e p = (
+  omega (arith, p.0, ap length same),
+  ap (λ rs. same_terms (get_or rs k r).terms r.terms) same ∙ ap (λ us. same_terms (get_or old k r).terms us) (sym e) ∙ p.1 r,
+)
 
 pub keeps_place : (rows old after : List Row) (r : Row) (ts : List Term) (k : ℕ) → rows ≡ old → ts ≡ r.terms → IsPlace old ts k
     → AreDistinct rows → after ≡ set rows k (lesser (get_or rows k r) r) → AreDistinct after

@@ -46,9 +46,12 @@ pub give-push : (hyps : List Linear) (goal : Linear) (before : List Linear) (lin
 give-push hyps goal before [] [] l row g h s = (subst (λ (xs : List Linear). LineGives hyps goal xs l row) (append-nil before) h, s, refl)
 give-push hyps goal before [] (x ∷ rows) l row g h s = cc
 give-push hyps goal before (k ∷ lines) [] l row g h s = absurd g
-give-push hyps goal before (k ∷ lines) (x ∷ rows) l row g h s =
-    (g.0, g.1, give-push hyps goal (before ++ x ∷ []) lines rows l row g.2
-    (subst (λ (xs : List Linear). LineGives hyps goal xs l row) (sym (append_assoc before (x ∷ []) rows)) h) s)
+give-push hyps goal before (k ∷ lines) (x ∷ rows) l row g h s = (
+  g.0,
+  g.1,
+  give-push hyps goal (before ++ x ∷ []) lines rows l row g.2
+      (subst (λ (xs : List Linear). LineGives hyps goal xs l row) (sym (append_assoc before (x ∷ []) rows)) h) s,
+)
 
 pub lines-length : (hyps : List Linear) (goal : Linear) (before : List Linear) (lines : List Line) (rows : List Linear)
     → LinesGive hyps goal before lines rows → length lines ≡ length rows

@@ -61,7 +61,6 @@ marked-all all [] (s ∷ steps) h = tt
 marked-all all (m ∷ marks) (s ∷ steps) h = (λ e. h 0 (omega arith) e, marked-all all marks steps (λ j k e. h (suc j) (omega arith) e))
 
 module _ (hyps : List Linear) (goal : Linear) (vars : List ℕ) where
-
   -- behind these rows, with these steps kept so far
   record Walk (all : List Bool) (before : List Linear) (numbers : List ℕ) (kept : List Step) (rows : List Linear) (done marks : List Bool) : Type 0 where
     stand : Stand hyps goal vars kept rows
@@ -130,7 +129,7 @@ module _ (hyps : List Linear) (goal : Linear) (vars : List ℕ) where
           ap (λ n. slice_get rows n) (number-before numbers 0 j (omega (arith, h.0, w.number_count))) ∙ w.correct j x e h.1
       go j x e (inr h) =
           let here : get_or all j false ≡ false =
-              ap (λ n. get_or all n false) (h.0 ∙ sym w.done_count) ∙ ap (λ ms. get_or ms (length done) false) w.marks_are ∙ mark-last done false marks in
+          ap (λ n. get_or all n false) (h.0 ∙ sym w.done_count) ∙ ap (λ ms. get_or ms (length done) false) w.marks_are ∙ mark-last done false marks in
           cc
 
   -- steps that give rows, the last of which cannot hold
@@ -201,7 +200,7 @@ module _ (hyps : List Linear) (goal : Linear) (vars : List ℕ) where
       let inside : line < length steps = omega (arith, slice_get_within rows line row e, stands-length hyps goal vars steps rows s) in
       let long : length front ≡ suc line = ap length is ∙ take-length line steps inside in
       let given : LinesGive hyps goal [] (lines_meant hyps front) (take (suc line) rows) =
-          subst (λ (ss : List Step). LinesGive hyps goal [] (lines_meant hyps ss) (take (suc line) rows)) (sym is) (take-gives (suc line) [] steps rows s.given) in
+      subst (λ (ss : List Step). LinesGive hyps goal [] (lines_meant hyps ss) (take (suc line) rows)) (sym is) (take-gives (suc line) [] steps rows s.given) in
       let before = earlier hyps goal [] front (take (suc line) rows) given in
       keep (needed front line) [] [] [] [] [] (needed front line) front (take (suc line) rows)
       (record {

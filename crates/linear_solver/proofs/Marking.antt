@@ -31,9 +31,10 @@ pub earlier : (hyps : List Linear) (goal : Linear) (before : List Linear) (steps
     → LinesGive hyps goal before (lines_meant hyps steps) rows → AreEarlier (length before) steps
 earlier hyps goal before [] rows g = tt
 earlier hyps goal before (s ∷ steps) [] g = absurd g
-earlier hyps goal before (s ∷ steps) (row ∷ rows) g =
-    (below hyps goal before s row g.0,
-    subst (λ (n : ℕ). AreEarlier n steps) (length-append before (row ∷ []) ∙ plus-one (length before)) (earlier hyps goal (before ++ row ∷ []) steps rows g.2))
+earlier hyps goal before (s ∷ steps) (row ∷ rows) g = (
+  below hyps goal before s row g.0,
+  subst (λ (n : ℕ). AreEarlier n steps) (length-append before (row ∷ []) ∙ plus-one (length before)) (earlier hyps goal (before ++ row ∷ []) steps rows g.2),
+)
   where
     plus-one : (n : ℕ) → n + 1 ≡ suc n
     plus-one n = omega arith
@@ -96,9 +97,10 @@ Marked marks (Cut k by) = get_or marks k false ≡ true
 taken-marked : (marks : List Bool) (s : Step) (at : ℕ) → Below at s → at ≤ length marks → Marked (with_marks marks s) s
 taken-marked marks (Hyp k) at b h = tt
 taken-marked marks Goal at b h = tt
-taken-marked marks (Comb left_by left right_by right) at b h =
-    (set-keeps (set marks left true) right left (set-marks marks left (omega (arith, b.0))),
-    set-marks (set marks left true) right (omega (arith, b.1, set-length marks left)))
+taken-marked marks (Comb left_by left right_by right) at b h = (
+  set-keeps (set marks left true) right left (set-marks marks left (omega (arith, b.0))),
+  set-marks (set marks left true) right (omega (arith, b.1, set-length marks left)),
+)
 taken-marked marks (Cut k by) at b h = set-marks marks k (omega arith)
 
 marked-more : (old new : List Bool) (s : Step) → ((j : ℕ) → get_or old j false ≡ true → get_or new j false ≡ true) → Marked old s → Marked new s
@@ -178,8 +180,8 @@ below-marked (suc at) steps marks j a k l h e =
     here same =
         let b = below-at steps at a (omega arith) in
         let was : get_or marks at false ≡ true =
-            sym (below-other at steps (marked_at at steps marks) at a (omega arith) (omega arith) ∙ at-other at steps marks at b (omega arith))
-            ∙ ap (λ n. get_or (marked_below at steps (marked_at at steps marks)) n false) (sym same) ∙ e in
+        sym (below-other at steps (marked_at at steps marks) at a (omega arith) (omega arith) ∙ at-other at steps marks at b (omega arith))
+        ∙ ap (λ n. get_or (marked_below at steps (marked_at at steps marks)) n false) (sym same) ∙ e in
         subst (λ (n : ℕ). Marked (marked_below at steps (marked_at at steps marks)) (get_or steps n Goal)) (sym same)
         (marked-more (marked_at at steps marks) (marked_below at steps (marked_at at steps marks)) (get_or steps at Goal)
         (λ i f. below-keeps at steps (marked_at at steps marks) i f) (at-marked at steps marks b (omega arith) was))

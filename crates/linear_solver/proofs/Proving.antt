@@ -87,7 +87,6 @@ small-start ts constant given e = go (nat_lt 16 (length ts)) (are_within ts cons
         ap (λ r. are_within r.terms r.constant) (sym same) ∙ w
 
 module _ (hyps : List Linear) (goal : Linear) (forms : All IsForm hyps) (form : IsForm goal) where
-
   in_cone-proves : (start : Linear) (out : List Step) → negated_row_of goal ≡ Ok start → in_cone (cone hyps start) hyps start ≡ Ok out → LinesProve hyps goal (lines_meant hyps out)
   in_cone-proves start out e f = go (nat_lt 64 (length (cone hyps start))) refl f
     where
@@ -101,7 +100,7 @@ module _ (hyps : List Linear) (goal : Linear) (forms : All IsForm hyps) (form : 
           let is : opposite_of goal ≡ start = opposite_is goal start e in
           let rising : IsRising 0 start.terms = subst (λ (r : Linear). IsRising 0 r.terms) is (IsRising-negated 0 goal.terms form.rising) in
           let sourced = first-sourced hyps goal vars start forms (cone-closed hyps start) (sym is)
-              (small-start (negated_terms goal.terms) (neg_ℤ goal.constant -ℤ pos 1) start e) (record { rising = rising; placed = cone-start hyps start }) in
+          (small-start (negated_terms goal.terms) (neg_ℤ goal.constant -ℤ pos 1) start e) (record { rising = rising; placed = cone-start hyps start }) in
           let n = numbers hyps goal vars [] [] [] (first_rows vars hyps start) (record { given = refl; proper = tt }) tt sourced in
           let r = rounds-refute hyps goal vars 64 (numbered [] [] (first_rows vars hyps start)).steps n.rows (numbered [] [] (first_rows vars hyps start)).rows out n.stand n.given k in
           subst (λ (ss : List Step). LinesProve hyps goal (lines_meant hyps ss)) (sym r.out_is)

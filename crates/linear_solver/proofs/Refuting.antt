@@ -93,7 +93,6 @@ at_middle [] row rest d = refl
 at_middle (x ∷ before) row rest d = at_middle before row rest d
 
 module _ (hyps : List Linear) (goal : Linear) (vars : List ℕ) where
-
   -- ---- the rows by the sign of a coefficient
 
   abbrev AreChosen : Sign → ℕ → List Linear → List Row → Type 0
@@ -131,18 +130,20 @@ module _ (hyps : List Linear) (goal : Linear) (vars : List ℕ) where
       → SourceGives hyps goal vars rows (sum_source a b p n) (sum_of_two a b p n)
   sum-gives steps rows a b p n s g h k l w =
       let at_p = row-at rows p g in
-      let at_n = row-at rows n h in
-      (record {
-        left_row = linear_of p;
-        right_row = linear_of n;
-        left_is = at_p;
-        right_is = at_n;
-        left_positive = first-one a b k l;
-        right_positive = second-one a b k l;
-        row_is = refl;
-      }, w,
-      proper-combination vars (first_by a b) (second_by a b) (linear_of p) (linear_of n)
-      (proper-at vars rows (line_of p.source) (linear_of p) s.proper at_p) (proper-at vars rows (line_of n.source) (linear_of n) s.proper at_n))
+      let at_n = row-at rows n h in (
+        record {
+          left_row = linear_of p;
+          right_row = linear_of n;
+          left_is = at_p;
+          right_is = at_n;
+          left_positive = first-one a b k l;
+          right_positive = second-one a b k l;
+          row_is = refl;
+        },
+        w,
+        proper-combination vars (first_by a b) (second_by a b) (linear_of p) (linear_of n)
+            (proper-at vars rows (line_of p.source) (linear_of p) s.proper at_p) (proper-at vars rows (line_of n.source) (linear_of n) s.proper at_n),
+      )
 
   limited-same : (rows out : List Row) → limited rows ≡ Ok out → rows ≡ out
   limited-same rows out e = go (nat_lt 2000 (length rows)) e
@@ -259,7 +260,7 @@ module _ (hyps : List Linear) (goal : Linear) (vars : List ℕ) where
   rounds-refute (suc n) steps rows system out s a e =
       go (look_at vars system) refl e
       (λ made sourced. (let k = numbers hyps goal vars steps rows [] made s tt sourced in
-          rounds-refute n (numbered steps [] made).steps k.rows (numbered steps [] made).rows out k.stand k.given))
+      rounds-refute n (numbered steps [] made).steps k.rows (numbered steps [] made).rows out k.stand k.given))
     where
       taken : (var : ℕ) (r : Result (List Row) LimitKind) → next_rows var system ≡ r
           → after_rows r (λ made. rounds n vars (numbered steps [] made).steps (numbered steps [] made).rows) ≡ Ok out

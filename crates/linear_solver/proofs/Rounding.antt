@@ -15,7 +15,6 @@ use Rattle.linear_solver.specs.Elimination.{ended, after_look, after_rows, round
 use Rattle.linear_solver.specs.Reducing.{Gives}
 use Rattle.linear_solver.specs.Solving.{Answers}
 
-
 no_round : (vars : List ℕ) (steps : List Step) (rows : List Row) → rounds 0 vars steps rows ≡ ended steps (look_at vars rows)
 unfolding rounds
 no_round vars steps rows = refl

@@ -23,7 +23,6 @@ use Rattle.linear_solver.proofs.Given.{get-more, gives-more, small-at, Stand, st
 use Rattle.linear_solver.proofs.Dividing.{divisor-divides}
 
 module _ (hyps : List Linear) (goal : Linear) (vars : List ℕ) where
-
   -- the source gives the row, behind rows that steps give
   abbrev pub SourceGives : List Linear → Source → Linear → Type 0
   SourceGives rows (Line n) x = slice_get rows n ≡ Some x

@@ -128,7 +128,7 @@ combines_more made new a xs b ys whole var x y coef next_xs next_ys m is x_is y_
     let by_x : front_coefficient var xs ≡ front_coefficient v xs = ap (λ n. front_coefficient n xs) is in
     let by_y : front_coefficient var ys ≡ front_coefficient v ys = ap (λ n. front_coefficient n ys) is in
     let exact : coef ≡ (front_coefficient v xs *ℤ a) +ℤ (front_coefficient v ys *ℤ b) =
-        coef_is ∙ ap (λ n. (n *ℤ a) +ℤ (y *ℤ b)) (x_is ∙ by_x) ∙ ap (λ n. (front_coefficient v xs *ℤ a) +ℤ (n *ℤ b)) (y_is ∙ by_y) in
+    coef_is ∙ ap (λ n. (n *ℤ a) +ℤ (y *ℤ b)) (x_is ∙ by_x) ∙ ap (λ n. (front_coefficient v xs *ℤ a) +ℤ (n *ℤ b)) (y_is ∙ by_y) in
     let left_is : next_xs ≡ behind v xs = xs_is ∙ ap (λ n. behind n xs) is in
     let right_is : next_ys ≡ behind v ys = ys_is ∙ ap (λ n. behind n ys) is in
     record {
@@ -161,8 +161,8 @@ combines_past made a xs b ys whole var x y m is x_is y_is w =
     let v = front_variable xs ys in
     let rest = combined_terms a (behind v xs) b (behind v ys) in
     let exact : (x *ℤ a) +ℤ (y *ℤ b) ≡ (front_coefficient v xs *ℤ a) +ℤ (front_coefficient v ys *ℤ b) =
-        ap (λ n. (n *ℤ a) +ℤ (y *ℤ b)) (x_is ∙ ap (λ n. front_coefficient n xs) is)
-        ∙ ap (λ n. (front_coefficient v xs *ℤ a) +ℤ (n *ℤ b)) (y_is ∙ ap (λ n. front_coefficient n ys) is) in
+    ap (λ n. (n *ℤ a) +ℤ (y *ℤ b)) (x_is ∙ ap (λ n. front_coefficient n xs) is)
+    ∙ ap (λ n. (front_coefficient v xs *ℤ a) +ℤ (n *ℤ b)) (y_is ∙ ap (λ n. front_coefficient n ys) is) in
     ap all_within (sym m.same ∙ ap (λ ts. made ++ ts) (front a b xs ys m.left m.right))
     ∙ list_all-append (λ t. is_within t.coef) made (with_multiple v ((front_coefficient v xs *ℤ a) +ℤ (front_coefficient v ys *ℤ b)) rest)
     ∙ second_false (all_within made) _ (false_multiple v ((front_coefficient v xs *ℤ a) +ℤ (front_coefficient v ys *ℤ b)) rest (ap is_within (sym exact) ∙ w))
@@ -232,6 +232,9 @@ pub combined_is : (made : List Term) (a : ℤ) (left xs : List Term) (b : ℤ) (
     → Combining made a xs b ys (combined_terms a left b right) → length xs ≡ 0 → length ys ≡ 0
     → (made ≡ combined_terms a left b right) × (all_within made ≡ true) × IsRising 0 made
 combined_is made a left xs b right ys r s m h k =
-    let all = combines_all made a xs b ys (combined_terms a left b right) m h k in
-    (all.0, all.1, subst (λ (ts : List Term). IsRising 0 ts) (sym all.0)
-    (IsRising-sum 0 (scaled_terms left a) (scaled_terms right b) (IsRising-scaled 0 left a r) (IsRising-scaled 0 right b s)))
+    let all = combines_all made a xs b ys (combined_terms a left b right) m h k in (
+      all.0,
+      all.1,
+      subst (λ (ts : List Term). IsRising 0 ts) (sym all.0)
+          (IsRising-sum 0 (scaled_terms left a) (scaled_terms right b) (IsRising-scaled 0 left a r) (IsRising-scaled 0 right b s)),
+    )

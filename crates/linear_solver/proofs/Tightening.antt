@@ -29,9 +29,10 @@ divided_terms ts by e h r w =
     let positive : is_positive by ≡ true = ap is_positive e ∙ big.1 in
     let divided : divides by ts ≡ true = ap (λ n. divides n ts) e ∙ divisor-divides ts (less 1 (divisor ts) big.0) in
     let x : Linear = record { terms = ts; constant = pos 0 } in
-    let columns = with_terms [] ts in
-    ((proper-cut columns x by positive divided (record { rising = r; placed = placed-with_terms [] ts })).rising,
-    (both (all_within (map (divided_term by) ts)) _ (cut-small x by positive (join (all_within ts) (is_within (pos 0)) w refl))).0)
+    let columns = with_terms [] ts in (
+      (proper-cut columns x by positive divided (record { rising = r; placed = placed-with_terms [] ts })).rising,
+      (both (all_within (map (divided_term by) ts)) _ (cut-small x by positive (join (all_within ts) (is_within (pos 0)) w refl))).0,
+    )
 
 pub tight_row : (ts read made : List Term) (constant by same by_at : ℤ) (source : Source) → by ≡ pos (divisor read) → read ≡ ts → pos 1 <ℤ by → IsRising 0 ts → all_within ts ≡ true
     → same ≡ by → made ≡ map (divided_term same) ts → IsRow (record { terms = made; constant = constant; source = source; by = by_at })

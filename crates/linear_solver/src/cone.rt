@@ -12,7 +12,11 @@ pub(crate) const MOST_VARIABLES: usize = 64;
 /// The variables that bear on a row: its own, and with a variable of a hypothesis all of that hypothesis. `None` comes where they are
 /// more than 64.
 #[tactic(auto, unfolding(crate::specs::Cone::cone))]
-pub(crate) fn cone(alloc: Global, hyps: &[Form], start: &Form) -> Result<Option<Vec<u32>>, AllocError>
+pub(crate) fn cone(
+    alloc: Global,
+    hyps: &[Form],
+    start: &Form,
+) -> Result<Option<Vec<u32>>, AllocError>
     ensures { IfOk result (λ found. MatchOption found (nat_lt 64 (length (cone hyps.now start.now)) ≡ true)
         (λ vars. (vars.items ≡ cone hyps.now start.now) × (length vars.items ≤ 64))) }
 {

@@ -15,7 +15,12 @@ use xan_lin::Form;
 
 /// The first system: the hypotheses that bear on the goal, and the opposite of the goal.
 #[tactic(auto, unfolding(crate::specs::Elimination::first_rows))]
-pub(crate) fn first_rows(alloc: Global, vars: &[u32], hyps: &[Form], start: &Form) -> Result<Reduced, AllocError>
+pub(crate) fn first_rows(
+    alloc: Global,
+    vars: &[u32],
+    hyps: &[Form],
+    start: &Form,
+) -> Result<Reduced, AllocError>
     requires { length hyps.now ≤ 512 }
     ensures { IfOk result (λ made. made ≡ first_rows vars.now hyps.now start.now) }
 {
@@ -27,7 +32,12 @@ pub(crate) fn first_rows(alloc: Global, vars: &[u32], hyps: &[Form], start: &For
 
 // Puts the hypotheses that bear on the goal.
 #[tactic(auto, unfolding(crate::specs::Elimination::with_hyps))]
-fn with_hyps(alloc: Global, vars: &[u32], hyps: &[Form], made: &mut Reduced) -> Result<(), AllocError>
+fn with_hyps(
+    alloc: Global,
+    vars: &[u32],
+    hyps: &[Form],
+    made: &mut Reduced,
+) -> Result<(), AllocError>
     requires { length hyps.now ≤ 512 }
     ensures { OnOk result (made.new ≡ with_hyps vars.now 0 hyps.now made.old) }
 {
@@ -38,7 +48,13 @@ fn with_hyps(alloc: Global, vars: &[u32], hyps: &[Form], made: &mut Reduced) -> 
 }
 
 // Puts the hypothesis of this number, where it bears on the goal.
-fn with_hyp(alloc: Global, vars: &[u32], at: u32, row: &Form, made: &mut Reduced) -> Result<(), AllocError>
+fn with_hyp(
+    alloc: Global,
+    vars: &[u32],
+    at: u32,
+    row: &Form,
+    made: &mut Reduced,
+) -> Result<(), AllocError>
     ensures { OnOk result (made.new ≡ (if bears vars.now row.now then settle made.old (tight (New (Hyp at)) row.now) else made.old)) }
 {
     if bears(vars, row) {

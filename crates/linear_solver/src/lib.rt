@@ -18,7 +18,6 @@ mod next;
 mod numbering;
 mod numbers;
 mod reduced;
-
 mod rounds;
 mod row;
 mod select;

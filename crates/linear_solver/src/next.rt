@@ -20,7 +20,12 @@ use xan_lin::{LimitKind, Term};
 
 /// The next system in place of what was made: the rows without the variable, reduced, and then the sums of two rows in which it goes out.
 #[tactic(auto, unfolding(crate::specs::Systems::next_rows))]
-pub(crate) fn next_rows(alloc: Global, var: u32, rows: &[SystemRow], made: &mut Reduced) -> Result<(), Stop>
+pub(crate) fn next_rows(
+    alloc: Global,
+    var: u32,
+    rows: &[SystemRow],
+    made: &mut Reduced,
+) -> Result<(), Stop>
     ensures { Gives result made.new (next_rows var rows.now) }
 {
     let positive = with_sign(alloc, rows, Sign::Positive, var)?;
@@ -46,7 +51,13 @@ fn reduce_onto(alloc: Global, rows: &[SystemRow], made: &mut Reduced) -> Result<
 
 // Puts the sums of each positive row and each negative one to reduced rows.
 #[tactic(auto, unfolding(crate::specs::Systems::with_all_sums))]
-fn with_all_sums(alloc: Global, var: u32, positive: &[SystemRow], negative: &[SystemRow], made: &mut Reduced) -> Result<(), Stop>
+fn with_all_sums(
+    alloc: Global,
+    var: u32,
+    positive: &[SystemRow],
+    negative: &[SystemRow],
+    made: &mut Reduced,
+) -> Result<(), Stop>
     ensures { Gives result made.new (with_all_sums var positive.now negative.now made.old) }
 {
     let mut rest = positive;
@@ -59,7 +70,13 @@ fn with_all_sums(alloc: Global, var: u32, positive: &[SystemRow], negative: &[Sy
 
 // Puts the sums of one positive row and each negative one to reduced rows.
 #[tactic(auto, unfolding(crate::specs::Systems::with_sums))]
-fn with_sums(alloc: Global, var: u32, positive: &SystemRow, negative: &[SystemRow], made: &mut Reduced) -> Result<(), Stop>
+fn with_sums(
+    alloc: Global,
+    var: u32,
+    positive: &SystemRow,
+    negative: &[SystemRow],
+    made: &mut Reduced,
+) -> Result<(), Stop>
     ensures { Gives result made.new (with_sums var positive.now negative.now made.old) }
 {
     let mut rest = negative;
@@ -72,7 +89,13 @@ fn with_sums(alloc: Global, var: u32, positive: &SystemRow, negative: &[SystemRo
 
 // Puts the sum of two rows to reduced ones.
 #[tactic(auto, unfolding(crate::specs::Systems::with_sum))]
-fn with_sum(alloc: Global, var: u32, positive: &SystemRow, negative: &SystemRow, made: &mut Reduced) -> Result<(), Stop>
+fn with_sum(
+    alloc: Global,
+    var: u32,
+    positive: &SystemRow,
+    negative: &SystemRow,
+    made: &mut Reduced,
+) -> Result<(), Stop>
     ensures { Gives result made.new (with_sum var positive.now negative.now made.old) }
 {
     match summed(alloc, var, positive, negative)? {
@@ -96,11 +119,21 @@ fn limited(made: &Reduced) -> Result<(), Stop>
 }
 
 // The sum of two rows in which the variable goes out, tightened. `None` comes where a number of it is past the bound before that.
-fn summed(alloc: Global, var: u32, positive: &SystemRow, negative: &SystemRow) -> Result<Option<SystemRow>, AllocError>
+fn summed(
+    alloc: Global,
+    var: u32,
+    positive: &SystemRow,
+    negative: &SystemRow,
+) -> Result<Option<SystemRow>, AllocError>
     ensures { IfOk result (λ found. IsSummed found (size var positive.now) (size var negative.now) positive.now negative.now) }
 {
     let by = multipliers_for(positive.size(var), negative.size(var));
-    let Some(constant) = number_combination(&positive.constant(), &by.first, &negative.constant(), &by.second) else {
+    let Some(constant) = number_combination(
+        &positive.constant(),
+        &by.first,
+        &negative.constant(),
+        &by.second,
+    ) else {
         return Ok(None);
     };
     let Some(terms) = combined(alloc, positive.terms(), negative.terms(), &by)? else {

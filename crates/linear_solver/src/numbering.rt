@@ -10,7 +10,11 @@ use std::alloc::{AllocError, Global};
 
 /// The rows as those that steps give. Each row in order gets its steps in the buffer.
 #[tactic(auto, unfolding(crate::specs::Numbering::numbered))]
-pub(crate) fn numbered(alloc: Global, rows: &[SystemRow], buf: &mut LineBuf) -> Result<Vec<SystemRow>, AllocError>
+pub(crate) fn numbered(
+    alloc: Global,
+    rows: &[SystemRow],
+    buf: &mut LineBuf,
+) -> Result<Vec<SystemRow>, AllocError>
     ensures { IfOk result (λ done. numbered buf.old [] rows.now ≡ record { steps = buf.new; rows = done.items }) }
 {
     let mut done = Vec::with_capacity(alloc, rows.len())?;

@@ -21,7 +21,13 @@ use xan_lin::{Form, LimitKind};
 pub(crate) const MOST_ROUNDS: usize = 64;
 
 /// The elimination of these variables from the hypotheses and the opposite of the goal. Where it proves, the steps are left that show it.
-pub(crate) fn in_cone(alloc: Global, vars: &[u32], hyps: &[Form], start: &Form, buf: &mut LineBuf) -> Result<Answer, Stop>
+pub(crate) fn in_cone(
+    alloc: Global,
+    vars: &[u32],
+    hyps: &[Form],
+    start: &Form,
+    buf: &mut LineBuf,
+) -> Result<Answer, Stop>
     requires few { length vars.now ≤ 64 }
     requires few_rows { length hyps.now ≤ 512 }
     requires empty { buf.old ≡ [] }
@@ -33,7 +39,13 @@ pub(crate) fn in_cone(alloc: Global, vars: &[u32], hyps: &[Form], start: &Form, 
 }
 
 // The rounds from a system on; `made` lends the room for the systems in the making.
-fn rounds(alloc: Global, vars: &[u32], first: Vec<SystemRow>, made: &mut Reduced, buf: &mut LineBuf) -> Result<Answer, Stop>
+fn rounds(
+    alloc: Global,
+    vars: &[u32],
+    first: Vec<SystemRow>,
+    made: &mut Reduced,
+    buf: &mut LineBuf,
+) -> Result<Answer, Stop>
     ensures { Answers result buf.new (rounds 64 vars.now buf.old first.items) }
 {
     let mut rows = first;

@@ -38,7 +38,12 @@ impl Model for SystemRow {
 impl SystemRow {
     /// The tightened row of these terms and this constant.
     #[tactic(auto, unfolding(crate::specs::Systems::tight))]
-    pub(crate) fn tight(alloc: Global, terms: Vec<Term>, constant: &i64, source: Source) -> Result<SystemRow, AllocError>
+    pub(crate) fn tight(
+        alloc: Global,
+        terms: Vec<Term>,
+        constant: &i64,
+        source: Source,
+    ) -> Result<SystemRow, AllocError>
         requires rising { IsRising 0 terms.items }
         requires small { IsTrue (all_within terms.items) }
         ensures { IfOk result (λ row. row ≡ tight source (record { terms = terms.items; constant = constant.now })) }

@@ -8,7 +8,12 @@ use std::alloc::{AllocError, Global};
 
 /// Copies of the rows in which the coefficient of the variable has this sign, in order.
 #[tactic(auto, unfolding(crate::specs::Systems::with_sign))]
-pub(crate) fn with_sign(alloc: Global, rows: &[SystemRow], sign: Sign, var: u32) -> Result<Vec<SystemRow>, AllocError>
+pub(crate) fn with_sign(
+    alloc: Global,
+    rows: &[SystemRow],
+    sign: Sign,
+    var: u32,
+) -> Result<Vec<SystemRow>, AllocError>
     ensures { IfOk result (λ made. made.items ≡ with_sign sign var rows.now) }
 {
     let mut made = Vec::new(alloc);

@@ -21,7 +21,13 @@ use xan_pool::RowPool;
 ///
 /// The answer is that of the elimination, and at `Proved` the buffer holds the steps that show it: the lines that they mean prove the goal.
 /// At another answer its steps are left open. The pool's rows are as before.
-pub fn refute(alloc: Global, pool: &mut RowPool, ctx: &Context, goal: &Form, buf: &mut LineBuf) -> Result<Answer, Memory>
+pub fn refute(
+    alloc: Global,
+    pool: &mut RowPool,
+    ctx: &Context,
+    goal: &Form,
+    buf: &mut LineBuf,
+) -> Result<Answer, Memory>
     requires width { pool.old.width ≡ 65 }
     requires room { length pool.old.rows + 4001 ≤ pool.old.capacity }
     ensures exact { IfOk result (λ answer. answer ≡ elimination ctx.now.rows goal.now) }

@@ -22,7 +22,16 @@ fn chain(alloc: Global, vars: u32) -> Option<Context> {
 
 // The row that one variable is at least another.
 fn difference(above: u32, below: u32) -> Option<Form> {
-    form(&[Term { var: above, coef: 1 }, Term { var: below, coef: -1 }])
+    form(&[
+        Term {
+            var: above,
+            coef: 1,
+        },
+        Term {
+            var: below,
+            coef: -1,
+        },
+    ])
 }
 
 // The answer to the goal that the first of so many variables in a chain is at least the last.
@@ -54,8 +63,14 @@ fn curve(k: i64, by: i64) -> Option<Form> {
     }
     form(&[
         Term { var: 0, coef: by },
-        Term { var: 1, coef: by * k },
-        Term { var: 2, coef: -(by * k * k * k) },
+        Term {
+            var: 1,
+            coef: by * k,
+        },
+        Term {
+            var: 2,
+            coef: -(by * k * k * k),
+        },
     ])
 }
 
@@ -75,5 +90,13 @@ fn curve_answer(alloc: Global, positive: i64, negative: i64) -> Option<Answer> {
 #[test]
 fn rows_of_a_system(rt: HostRuntime) -> Result<(), Fail> {
     assert!(rt; curve_answer(rt.alloc(), 256, 255) == Some(Answer::Limit(LimitKind::System)));
+    Ok(())
+}
+
+// About a million pairs: 45 rows of each sign leave 990 of each sign at most, which have the coefficients of two rows in all. All rows
+// together say that the three variables are 0, so that v0 is at least 0.
+#[test]
+fn a_million_pairs(rt: HostRuntime) -> Result<(), Fail> {
+    assert!(rt; curve_answer(rt.alloc(), 45, 45) == Some(Answer::Proved));
     Ok(())
 }

@@ -69,7 +69,12 @@ fn text_of(alloc: Global, lines: &[Line]) -> Option<Vec<u8>> {
 }
 
 /// What the solver shows of a goal over a context; `wanted` is the text of its lines, or nothing where any will do.
-pub(crate) fn run_of(alloc: Global, context: &Context, goal: &Form, wanted: &[u8]) -> Option<Shown> {
+pub(crate) fn run_of(
+    alloc: Global,
+    context: &Context,
+    goal: &Form,
+    wanted: &[u8],
+) -> Option<Shown> {
     let mut pool = RowPool::new(alloc, 4001, 65).ok()?;
     let mut buf = LineBuf::new(alloc).ok()?;
     let answer = refute(alloc, &mut pool, context, goal, &mut buf).ok()?;

@@ -11,7 +11,7 @@ pub returns-in_err-next_rows : goal.returns-in_err-next_rows
 returns-in_err-next_rows c =
     let p = err_from_is_err_and c.from_residual.result c.from_residual.ensures.1 in
     let f = rounds_fail _ _ _ c.rounds.buf _ _ _ _ _ _ _ _ c.rounds.invariant c.rounds-test.true c.as_slice.ensures.value c.look_at.ensures c.in-Take.is c.as_slice-in-rounds.ensures.value
-        (c.in_err-next_rows.ensures {u = tt}) in
+    (c.in_err-next_rows.ensures {u = tt}) in
     rw (p.1, p.2) f
 
 pub rounds-preserved : goal.rounds-preserved

@@ -8,6 +8,6 @@ pub returns-clause-small : goal.returns-clause-small
 returns-clause-small c =
     let fits : FitsSigned w64 c.coefficient.result = search rules in
     let e : c.unsigned_abs.result ≡ unsigned_abs (coefficient c.args.var c.args.terms.now) =
-        c.unsigned_abs.ensures.value ∙ ap unsigned_abs (to_z-of_z w64 c.coefficient.result fits ∙ c.coefficient.ensures) in
+    c.unsigned_abs.ensures.value ∙ ap unsigned_abs (to_z-of_z w64 c.coefficient.result fits ∙ c.coefficient.ensures) in
     let small = coefficient-small c.args.var c.args.terms.now c.requires in
     omega arith
