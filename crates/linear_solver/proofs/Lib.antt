@@ -1,0 +1,16 @@
+pub mod Euclid
+pub mod Ranges
+pub mod Sums
+pub mod Distinct
+pub mod Dividing
+pub mod Tightening
+pub mod Reaching
+pub mod Rounding
+pub mod Closing
+pub mod Counting
+pub mod Given
+pub mod Sourced
+pub mod Refuting
+pub mod Marking
+pub mod Keeping
+pub mod Proving

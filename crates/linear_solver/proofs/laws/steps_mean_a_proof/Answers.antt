@@ -1,0 +1,5 @@
+use Rattle.linear_solver.proofs.Proving.{proved-proves}
+use Rattle.linear_solver.proofs.laws.steps_mean_a_proof.Goals as goal
+
+pub returns : goal.returns
+returns c hyps goal forms form proved = proved-proves hyps goal forms form proved

@@ -1,0 +1,9 @@
+use Rattle.std.proofs.Common.{◌≡◌, length}
+use Rattle.linear_solver.specs.Systems.{reduced_onto}
+use Rattle.linear_solver.proofs.next.reduce_onto.Given as goal
+
+abbrev pub invariant-rows : goal.invariant-rows
+invariant-rows l = reduced_onto l.made l.rest ≡ reduced_onto l.fn.made l.rows
+
+abbrev pub decreases-rows : goal.decreases-rows
+decreases-rows l = length l.rest

@@ -1,0 +1,9 @@
+use Rattle.std.proofs.Common.{subst, All, List}
+use Rattle.xan_lin.specs.Linear.{Linear, IsForm}
+use Rattle.linear_solver.proofs.Proving.{answers_prove}
+use Rattle.linear_solver.proofs.solver.refute.Goals as goal
+
+pub returns-in-Ok-clause-proved : goal.returns-in-Ok-clause-proved
+returns-in-Ok-clause-proved c =
+    let forms : All IsForm c.args.ctx.now.rows = subst (λ (rows : List Linear). All IsForm rows) c.rows.ensures.rows c.tell_forms.ensures in
+    answers_prove c.args.ctx.now.rows c.args.goal.now forms c.tell_form.ensures c.in-Ok.answer c.eliminated.new.buf c.in-Ok.ensures

@@ -1,0 +1,9 @@
+use Rattle.std.proofs.Common.{◌≡◌, ◌≤◌, length}
+use Rattle.linear_solver.specs.Tracing.{marked_below, needed}
+use Rattle.linear_solver.proofs.tracing.needed.Given as goal
+
+abbrev pub invariant-steps : goal.invariant-steps
+invariant-steps l = record { within : l.at ≤ length l.steps; same : marked_below l.at l.steps l.marks.items ≡ needed l.steps l.line }
+
+abbrev pub decreases-steps : goal.decreases-steps
+decreases-steps l = l.at

@@ -1,0 +1,12 @@
+pub mod Divisors
+pub mod Systems
+pub mod Choosing
+pub mod Numbering
+pub mod Tracing
+pub mod Cone
+pub mod Elimination
+pub mod Meaning
+pub mod Merging
+pub mod Buffers
+pub mod Reducing
+pub mod Solving

@@ -1,0 +1,32 @@
+-- Steps of the sum of two rows, variable by variable: no part of the promise.
+use Rattle.std.specs.Prelude.{ℕ, ℤ, pos, ◌≡◌, ◌==◌, List, [], ◌∷◌, nat_lt, IsTrue, if◌then◌else◌}
+use Rattle.xan_lin.specs.Terms.{IsRising, sum_terms, scaled_terms}
+use Rattle.xan_lin.specs.Linear.{all_within}
+use Rattle.xan_lin.specs.declared.term.Term.{Term}
+use Rattle.linear_solver.specs.Systems.{Row}
+
+-- the coefficient of a variable in the first term
+abbrev pub front_coefficient : ℕ → List Term → ℤ
+front_coefficient var [] = pos 0
+front_coefficient var (t ∷ ts) = if t.var == var then t.coef else pos 0
+
+-- the terms behind that of a variable, where it is the first
+abbrev pub behind : ℕ → List Term → List Term
+behind var [] = []
+behind var (t ∷ ts) = if t.var == var then ts else t ∷ ts
+
+-- the lesser variable of the two first terms
+abbrev pub front_variable : List Term → List Term → ℕ
+front_variable [] [] = 0
+front_variable [] (u ∷ us) = u.var
+front_variable (t ∷ ts) [] = t.var
+front_variable (t ∷ ts) (u ∷ us) = if nat_lt u.var t.var then u.var else t.var
+
+-- the sum of two lists of terms, each times a number
+abbrev pub combined_terms : ℤ → List Term → ℤ → List Term → List Term
+combined_terms a ts b us = sum_terms (scaled_terms ts a) (scaled_terms us b)
+
+-- what holds of every row of a system
+pub record IsRow (row : Row) : Type 0 where
+  pub rising : IsRising 0 row.terms
+  pub small : IsTrue (all_within row.terms)

@@ -1,0 +1,37 @@
+//! Elimination that leaves proofs.
+//!
+//! [`refute`] answers exactly what the elimination of variables says of a goal over the rows of a context. Where it is `Proved`, its steps
+//! stand for lines that `proof_lines` accepts, so that the goal is entailed over all integers. It stands on `index_sorts`, `proof_lines`,
+//! `xan_lin` and `xan_pool`.
+#![tactic(auto)]
+
+mod answer;
+mod choose;
+mod combine;
+mod cone;
+mod divisors;
+mod first;
+mod forms;
+mod laws;
+mod line_buf;
+mod next;
+mod numbering;
+mod numbers;
+mod reduced;
+mod rounds;
+mod row;
+mod select;
+mod solver;
+mod source;
+mod step;
+mod stop;
+#[cfg(test)]
+mod tests;
+mod tracing;
+
+pub use crate::answer::{Answer, SOLVER_ROWS};
+pub use crate::laws::{proved_goals_are_entailed, steps_mean_a_proof};
+pub use crate::line_buf::LineBuf;
+pub use crate::solver::refute;
+pub use crate::step::Step;
+pub use xan_lin::Memory;
