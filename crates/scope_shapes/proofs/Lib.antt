@@ -1,4 +1,6 @@
+pub mod Binds
 pub mod Integers
 pub mod Parts
 pub mod Scopes
 pub mod Tables
+pub mod Zips
