@@ -1,3 +1,4 @@
+pub mod Binds
 pub mod Integers
 pub mod Parts
 pub mod Scopes
@@ -17,3 +18,4 @@ pub mod ShapedStatements
 pub mod ShapedTests
 pub mod ShapedTypes
 pub mod Tables
+pub mod Zips

@@ -24,7 +24,7 @@ use Rattle.scope_shapes.specs.Names.{Scope, no_types}
 use Rattle.scope_shapes.specs.Headers.{Header, no_functions, type_names, packings, headers, main_number}
 use Rattle.scope_shapes.specs.Sites.{Globals}
 use Rattle.scope_shapes.specs.Statements.{block}
-use Rattle.scope_shapes.specs.Shape.{parameter_names, entry, Inner, inner, inners, fun, funs, globals, shape}
+use Rattle.scope_shapes.specs.Shape.{parameter_names, entry, Inner, inner, inners, fun, funs, globals, finished, shape}
 use Rattle.scope_shapes.proofs.ShapedLists.{then_ok, ok_same, unless_ok, all_at, all_weaker, Begins}
 use Rattle.scope_shapes.proofs.ShapedTypes.{types_fit, packings_are}
 use Rattle.scope_shapes.proofs.ShapedHeaders.{IsHeader, kind_is_value}
@@ -184,11 +184,11 @@ put (h ∷ hs) (b ∷ bs) = fun h b ∷ put hs bs
 put (h ∷ hs) [] = []
 put [] bs = []
 
-funs_are : (hs : List Header) (bs : List Inner) (made : List core.Fun) → funs hs bs made ≡ made ++ put hs bs
+funs_are : (hs : List Header) (bs : List Inner) → funs hs bs ≡ put hs bs
 unfolding funs
-funs_are [] bs made = sym (append-nil made)
-funs_are (h ∷ hs) [] made = sym (append-nil made)
-funs_are (h ∷ hs) (b ∷ bs) made = funs_are hs bs (made ++ (fun h b ∷ [])) ∙ append_assoc made (fun h b ∷ []) (put hs bs)
+funs_are [] bs = refl
+funs_are (h ∷ hs) [] = refl
+funs_are (h ∷ hs) (b ∷ bs) = ap (λ fs. fun h b ∷ fs) (funs_are hs bs)
 
 -- each header has its body
 abbrev HaveBodies : Globals → List Header → List Inner → Type 0
@@ -300,6 +300,6 @@ shape_is_shaped tree end y written e =
     let p = globals_are tree g.value written g.first in
     let z = inners_are g.value g.value.functions.headers [] b.value b.first in
     let zip = subst (AllZip (InnerOf g.value) g.value.functions.headers) (sym z.is) z.zip in
-    subst Shaped (ok_same (record { types = g.value.packings; funs = funs g.value.functions.headers b.value []; main = m.value }) y b.second)
-    (subst (λ fs. Shaped (record { types = g.value.packings; funs = fs; main = m.value })) (sym (funs_are g.value.functions.headers b.value []))
+    subst Shaped (ok_same (finished g.value b.value m.value) y b.second)
+    (subst (λ fs. Shaped (record { types = g.value.packings; funs = fs; main = m.value })) (sym (funs_are g.value.functions.headers b.value))
     (program_is g.value b.value m.value p (main_is g.value.packings g.value.functions end m.value p.table m.first) zip))

@@ -1,7 +1,7 @@
 -- The core of a source's tree, or its first fault.
 --
 -- The walk: names of types; bodies of types; headers of functions; main; bodies of functions. Each part is finished before the next begins.
-use Rattle.std.specs.Prelude.{ℕ, ◌+◌, Bool as Truth, List, [], ◌∷◌, ◌++◌, map, length, Option, Some, None, Ok, if◌then◌else◌}
+use Rattle.std.specs.Prelude.{ℕ, ◌+◌, Bool as Truth, List, [], ◌∷◌, ◌++◌, map, zip, Option, Some, None, Ok, if◌then◌else◌}
 use Rattle.xanadu_tree.specs.declared.tree.index.Binder.{Binder}
 use Rattle.xanadu_tree.specs.declared.types.Kind.{Kind}
 use Rattle.xanadu_tree.specs.Plain as core
@@ -72,10 +72,12 @@ fun h b = record {
   at = h.declaration.at;
 }
 
--- the functions, after those that were put together
-unfoldable pub funs : List Header → List Inner → List core.Fun → List core.Fun
-funs (h ∷ hs) (b ∷ bs) made = funs hs bs (made ++ (fun h b ∷ []))
-funs _ _ made = made
+abbrev pub fun_of : Header × Inner → core.Fun
+fun_of p = fun p.0 p.1
+
+-- the functions, each of its header and its body
+unfoldable pub funs : List Header → List Inner → List core.Fun
+funs headers bodies = map fun_of (zip headers bodies)
 
 unfoldable pub globals : plain.Tree → Check Globals
 globals tree = do
@@ -84,10 +86,13 @@ globals tree = do
   functions ← headers types tree.declarations no_functions
   Ok (record { types = types; packings = declared; functions = functions })
 
+abbrev pub finished : Globals → List Inner → (main : ℕ) → core.Program
+finished program bodies main = record { types = program.packings; funs = funs program.functions.headers bodies; main = main }
+
 -- The end of the source is the place of the fault that there is no `main`.
 unfoldable pub shape : plain.Tree → (end : ℕ) → Check core.Program
 shape tree end = do
   program ← globals tree
   main ← main_number program.functions end
   bodies ← inners program program.functions.headers []
-  Ok (record { types = program.packings; funs = funs program.functions.headers bodies []; main = main })
+  Ok (finished program bodies main)

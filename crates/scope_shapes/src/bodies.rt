@@ -175,7 +175,7 @@ pub fn funs(
     headers: Vec<Header<'_>>,
     bodies: Vec<Inner>,
 ) -> Result<Vec<CoreFun>, Memory>
-    ensures { IfOk result (λ x. map plain_fun x.items ≡ spec.funs (map header_of headers.entry.items) (map inner_of bodies.items) []) }
+    ensures { IfOk result (λ x. map plain_fun x.items ≡ spec.funs (map header_of headers.entry.items) (map inner_of bodies.items)) }
 {
     let mut made = Vec::new(alloc);
     for (header, body) in headers.into_iter().zip(bodies) {

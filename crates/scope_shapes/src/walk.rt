@@ -1,22 +1,24 @@
 //! The whole walk.
 
-ghost use Rattle.std.specs.Prelude.{◌≡◌, map};
+ghost use Rattle.std.specs.Prelude.{◌≡◌, map, IfOk};
 ghost use Rattle.xanadu_tree.specs.PlainOf.{plain_core};
 ghost use Rattle.xanadu_tree.specs.PlainTreeOf.{plain_parameter, plain_result, plain_tree};
 ghost use Rattle.xanadu_tree.specs.Written.{result_at};
+ghost use Rattle.scope_shapes.specs.BodiesOf.{inner_of};
 ghost use Rattle.scope_shapes.specs.Code.{Gives};
 ghost use Rattle.scope_shapes.specs.Headers as headers_spec;
 ghost use Rattle.scope_shapes.specs.HeadersOf.{header_of, functions_of};
 ghost use Rattle.scope_shapes.specs.Shape as spec;
 ghost use Rattle.scope_shapes.specs.SitesOf.{globals_of};
 
-use crate::bodies::{funs, inners};
+use crate::bodies::{Inner, funs, inners};
 use crate::error::{ShapeError, ShapeKind};
 use crate::headers::{headers, packings, type_names, Functions, Header};
 use crate::kinds::kind_of;
 use crate::site::{header_at, Globals};
 use crate::types::narrowed;
 use std::alloc::Global;
+use xan_io::Memory;
 use xan_seq::Seq;
 use xanadu_tree::{Core, CoreTy, Kind, Parameter, ResultType, Tree};
 
@@ -122,6 +124,31 @@ fn globals(alloc: Global, tree: &Tree) -> Result<Globals<'_>, ShapeError>
     })
 }
 
+/// The core, when all has been looked at.
+fn finished(
+    alloc: Global,
+    program: Globals<'_>,
+    bodies: Vec<Inner>,
+    main: u32,
+) -> Result<Core, Memory>
+    ensures { IfOk result (λ core. plain_core core ≡ spec.finished (globals_of program.entry) (map inner_of bodies.items) main) }
+{
+    let Globals {
+        types: _types,
+        packings,
+        functions,
+    } = program;
+    let Functions {
+        names: _names,
+        headers,
+    } = functions;
+    Ok(Core {
+        types: Seq::from_vec(packings),
+        funs: Seq::from_vec(funs(alloc, headers, bodies)?),
+        main,
+    })
+}
+
 /// The core of a tree, or its first fault. `end` is the end of the source, the place of the fault that there is no `main`.
 ///
 /// The walk goes over the names of types, their bodies, the headers of functions, main, and the bodies of functions. Each part of it is
@@ -134,10 +161,5 @@ pub fn resolve(alloc: Global, tree: &Tree, end: u32) -> Result<Core, ShapeError>
     let program = globals(alloc, tree)?;
     let main = main_number(&program.functions, end)?;
     let bodies = inners(alloc, &program, &program.functions.headers)?;
-    let funs = funs(alloc, program.functions.headers, bodies)?;
-    Ok(Core {
-        types: Seq::from_vec(program.packings),
-        funs: Seq::from_vec(funs),
-        main,
-    })
+    Ok(finished(alloc, program, bodies, main)?)
 }

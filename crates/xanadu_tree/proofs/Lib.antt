@@ -7,6 +7,7 @@ pub mod LaidTypes
 pub mod Loops
 pub mod ReadBack
 pub mod ShapedExamples
+pub mod ShapedFacts
 pub mod ShapedReturns
 pub mod ShapedSums
 pub mod StatementTexts

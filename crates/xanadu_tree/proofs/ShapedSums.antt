@@ -1,8 +1,8 @@
 -- The program of a sum keeps the rules of a core.
-use Rattle.std.proofs.Common.{◌≡◌, ◌≢◌, sym, ap, subst, ℕ, zero, suc, ◌+◌, ◌<◌, ◌≤◌, pos, List, [], ◌∷◌, length, map, take, get_or, replicate, Some, refl, arith, ◌∙◌, ◌⊎◌, inl, inr}
+use Rattle.std.proofs.Common.{◌≡◌, ◌≢◌, sym, ap, subst, ℕ, zero, suc, ◌+◌, ◌<◌, ◌≤◌, pos, [], ◌∷◌, length, map, take, get_or, replicate, Some, refl, arith, ◌∙◌, ◌⊎◌, inl, inr}
 use Rattle.std.specs.Prelude.{codes, slice_get}
 use Rattle.std.specs.List.{AllByRecursion, range_with_len}
-use Rattle.std.proofs.lemmas.List.{length-map, length-replicate, take_all, get_or-replicate}
+use Rattle.std.proofs.lemmas.List.{length-replicate, take_all, get_or-replicate}
 use Rattle.std.proofs.lemmas.List.FromFn.{length-map-range_with_len}
 use Rattle.std.proofs.lemmas.Option.{slice_get-get_or}
 use Rattle.xanadu_lexer.specs.declared.keyword.Keyword.{Keyword}
@@ -10,10 +10,9 @@ use Rattle.xanadu_lexer.specs.declared.keyword.Keyword.TheVariants as keyword
 use Rattle.xanadu_lexer.specs.Rules.{IsLower}
 use Rattle.xanadu_lexer.specs.Spelling.{keyword_text}
 use Rattle.xanadu_tree.specs.declared.types.CoreTy.{CoreTy}
-use Rattle.xanadu_tree.specs.declared.types.CoreTy.TheVariants as ty
 use Rattle.xanadu_tree.specs.declared.types.Kind.{Kind}
 use Rattle.xanadu_tree.specs.declared.types.Kind.TheVariants as kind
-use Rattle.xanadu_tree.specs.IndexRules.{Stretch, IsForm, SomeTells, variable_form}
+use Rattle.xanadu_tree.specs.IndexRules.{SomeTells, variable_form}
 use Rattle.xanadu_tree.specs.KindRules.{kind_of, header, Setting, IsAmong, HasKind, AreNumbers}
 use Rattle.xanadu_tree.specs.BodyRules.{AreStatements, IsType}
 use Rattle.xanadu_tree.specs.Shaped.{IsArgument, IsFunction, IsMain, Shaped, setting, body_start}

@@ -135,3 +135,25 @@ unfoldable mutual
   AreStatements set before plain.NoStmt after = after ≡ before
   AreStatements set before (plain.AStmt s ss) after =
       (middle : Point) × IsStatement set before s middle × MayFollow (completes s) ss × AreStatements set middle ss after
+
+-- ---- the index variables of clauses, in the order of the text
+
+abbrev pub clause_indices : Option Clause → List ℕ
+clause_indices None = []
+clause_indices (Some clause) = range_with_len clause.first clause.quant.count
+
+abbrev mutual
+  pub statement_indices : plain.Stmt → List ℕ
+  statement_indices (plain.If test on_true on_false join at) = all_indices on_true ++ (all_indices on_false ++ clause_indices join)
+  statement_indices (plain.While test head body at) = clause_indices head ++ all_indices body
+  statement_indices _ = []
+
+  pub all_indices : plain.Stmts → List ℕ
+  all_indices plain.NoStmt = []
+  all_indices (plain.AStmt s ss) = statement_indices s ++ all_indices ss
+
+-- these are the index variables between two places: the next numbers, in order
+pub record AreNumbered (before after : Point) (indices : List ℕ) : Type 0 where
+  pub count : ℕ
+  pub last : after.indices ≡ before.indices + count
+  pub are : indices ≡ range_with_len before.indices count

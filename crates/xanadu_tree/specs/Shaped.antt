@@ -2,7 +2,7 @@
 --
 -- Parameters, the names of a split and a `Set` of a variable that is not visible declare a variable. Variables, and the index variables
 -- of clauses, are numbered in the order of the text, so that each has a number of its own.
-use Rattle.std.specs.Prelude.{◌≡◌, ℕ, ◌+◌, ◌<◌, List, [], ◌∷◌, length, map, take, slice_get, codes, false, true, Bool as Truth, Some, pos, ◌⊎◌}
+use Rattle.std.specs.Prelude.{◌≡◌, ℕ, List, [], ◌∷◌, length, map, take, slice_get, codes, false, true, Bool as Truth, Some, pos, ◌⊎◌}
 use Rattle.std.specs.List.{AllByRecursion, range_with_len}
 use Rattle.xanadu_lexer.specs.Rules.{IsLower}
 use Rattle.xanadu_tree.specs.declared.linear.Linear.{Linear}
