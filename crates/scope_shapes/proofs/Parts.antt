@@ -1,13 +1,13 @@
 -- A list of parts that is not empty has a part in front.
-use Rattle.std.proofs.Common.{◌≡◌, ℕ, ◌<◌, true, List, [], ◌∷◌, length, refl, arith}
+use Rattle.std.proofs.Common.{◌≡◌, ℕ, ◌<◌, true, List, [], ◌∷◌, length, refl, ap, ◌+◌, arith}
 use Rattle.xanadu_tree.specs.declared.expr.Op.{Op}
 use Rattle.xanadu_tree.specs.declared.tree.expression.Conjunction.{Conjunction}
 use Rattle.xanadu_tree.specs.declared.tree.expression.Expression.{Expression}
 use Rattle.xanadu_tree.specs.declared.tree.expression.Negation.{Negation}
 use Rattle.xanadu_tree.specs.declared.tree.expression.Product.{Product}
 use Rattle.xanadu_tree.specs.declared.tree.expression.Unary.{Unary as One}
-use Rattle.xanadu_tree.specs.PlainTreeOf.{plain_indices}
-use Rattle.scope_shapes.specs.Expressions.{has_conjunction, has_negation, has_addend, has_factor, has_index}
+use Rattle.xanadu_tree.specs.PlainTreeOf.{plain_indices, plain_expressions}
+use Rattle.scope_shapes.specs.Expressions.{has_conjunction, has_negation, has_addend, has_factor, has_index, count}
 use Rattle.scope_shapes.specs.NodesOf.{conjunctions_of, negations_of, addends_of, factors_of}
 
 none-longer : {A : Type 0} (xs : List A) → xs ≡ [] → 0 < length xs → ⊥
@@ -33,3 +33,7 @@ has_factor-some (x ∷ xs) longer = refl
 pub has_index-some : (xs : List (Expression × ℕ)) → 0 < length xs → has_index (plain_indices xs) ≡ true
 has_index-some [] longer = absurd (none-longer {A = Expression × ℕ} [] refl longer)
 has_index-some (x ∷ xs) longer = refl
+
+pub count-is : (xs : List Expression) → length xs ≡ count (plain_expressions xs)
+count-is [] = refl
+count-is (x ∷ xs) = omega (arith, count-is xs)
