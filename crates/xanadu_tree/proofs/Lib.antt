@@ -6,10 +6,6 @@ pub mod LaidTrees
 pub mod LaidTypes
 pub mod Loops
 pub mod ReadBack
-pub mod ShapedExamples
-pub mod ShapedFacts
-pub mod ShapedReturns
-pub mod ShapedSums
 pub mod StatementTexts
 pub mod Texts
 pub mod TreeEquations

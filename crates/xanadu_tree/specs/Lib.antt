@@ -1,13 +1,9 @@
-pub mod BodyRules
-pub mod IndexRules
-pub mod KindRules
 pub mod Nesting
 pub mod Pieces
 pub mod Plain
 pub mod PlainOf
 pub mod PlainTree
 pub mod PlainTreeOf
-pub mod Shaped
 pub mod Small
 pub mod Spelling
 pub mod Written

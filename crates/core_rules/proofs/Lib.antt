@@ -1,0 +1,4 @@
+pub mod ShapedExamples
+pub mod ShapedFacts
+pub mod ShapedReturns
+pub mod ShapedSums

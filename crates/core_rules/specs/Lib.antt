@@ -1,0 +1,4 @@
+pub mod BodyRules
+pub mod IndexRules
+pub mod KindRules
+pub mod Shaped

@@ -1,5 +1,0 @@
-use Rattle.xanadu_tree.proofs.ShapedFacts.{all_numbers}
-use Rattle.xanadu_tree.proofs.laws.clauses_are_numbered.Goals as goal
-
-pub returns : goal.returns
-returns c = all_numbers
