@@ -1,4 +1,4 @@
-use Rattle.std.proofs.Common.{◌∙◌, refl}
+use Rattle.std.proofs.Common.{refl}
 use Rattle.std.proofs.lemmas.Result.{err_from_is_err_and}
 use Rattle.linear_solver.proofs.Rounding.{rounds_end, rounds_last, rounds_fail, rounds_more}
 use Rattle.linear_solver.proofs.rounds.rounds.Goals as goal
