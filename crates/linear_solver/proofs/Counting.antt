@@ -1,12 +1,12 @@
 -- Different variables among others are no more than those.
-use Rattle.std.proofs.Common.{◌≡◌, ◌≢◌, ℕ, zero, suc, ◌+◌, ◌<◌, ◌≤◌, Bool, true, false, cond, ◌&&◌, ◌||◌, ◌==◌, List, [], ◌∷◌, ◌++◌, length, refl, sym, ◌∙◌, ap, subst, arith}
-use Rattle.std.specs.List.{list_all, list_any}
-use Rattle.std.proofs.lemmas.List.Folds.{list_all-append, list_any-append}
+use Rattle.std.proofs.Common.{◌≡◌, ℕ, suc, ◌≤◌, Bool, true, false, cond, ◌&&◌, ◌||◌, ◌==◌, List, [], ◌∷◌, ◌++◌, length, refl, sym, ◌∙◌, ap, arith}
+use Rattle.std.specs.List.{list_all}
+use Rattle.std.proofs.lemmas.List.Folds.{list_all-append}
 use Rattle.xan_lin.specs.Linear.{Linear}
 use Rattle.xan_lin.specs.declared.term.Term.{Term}
 use Rattle.proof_lines.specs.Variables.{is_among, with_variable, with_terms, with_rows, variables}
 use Rattle.proof_lines.specs.Cells.{AreDifferent, are_among, AreProper}
-use Rattle.proof_lines.proofs.Different.{same_number, different-with, with_variable-among, with_variable-new}
+use Rattle.proof_lines.proofs.Different.{same_number}
 use Rattle.proof_lines.proofs.Growing.{with_terms-none, with_terms-cons, different-with_terms}
 use Rattle.proof_lines.proofs.Proper.{both, join}
 

@@ -1,6 +1,6 @@
 -- Rows that steps give: with more rows behind them, and with one more step.
-use Rattle.std.proofs.Common.{◌≡◌, ℕ, zero, suc, ◌+◌, ◌<◌, ℤ, List, [], ◌∷◌, ◌++◌, length, map, Some, slice_get, IsTrue, refl, sym, ◌∙◌, ap, subst, arith}
-use Rattle.std.proofs.lemmas.List.{append_assoc, append-nil, length-append, map-append}
+use Rattle.std.proofs.Common.{◌≡◌, ℕ, zero, suc, List, [], ◌∷◌, ◌++◌, length, Some, slice_get, refl, sym, ◌∙◌, ap, subst}
+use Rattle.std.proofs.lemmas.List.{append_assoc, append-nil, map-append}
 use Rattle.xan_lin.specs.Linear.{Linear}
 use Rattle.proof_lines.specs.declared.line.Line.{Line}
 use Rattle.proof_lines.specs.declared.line.Line.TheVariants as line

@@ -1,5 +1,5 @@
 -- The needed steps alone, counted anew, give the same rows.
-use Rattle.std.proofs.Common.{◌≡◌, ℕ, zero, suc, ◌+◌, ◌<◌, ◌≤◌, Bool, true, false, cond, ◌⊎◌, inl, inr, List, [], ◌∷◌, ◌++◌, length, take, get_or, Some, slice_get, refl, sym, ◌∙◌, ap, subst, arith}
+use Rattle.std.proofs.Common.{◌≡◌, ℕ, zero, suc, ◌+◌, ◌<◌, ◌≤◌, Bool, true, false, ◌⊎◌, inl, inr, List, [], ◌∷◌, ◌++◌, length, take, get_or, Some, slice_get, refl, sym, ◌∙◌, ap, subst, arith}
 use Rattle.std.proofs.lemmas.List.{append_assoc, length-append}
 use Rattle.std.proofs.lemmas.Option.{slice_get_within}
 use Rattle.xan_lin.specs.Linear.{Linear}
@@ -10,8 +10,8 @@ use Rattle.linear_solver.specs.declared.step.Step.{Step}
 use Rattle.linear_solver.specs.declared.step.Step.TheVariants.{Hyp, Goal, Comb, Cut}
 use Rattle.linear_solver.specs.Meaning.{line_meant, lines_meant}
 use Rattle.linear_solver.specs.Tracing.{needed, renumbered, kept_onto, traced}
-use Rattle.linear_solver.proofs.Given.{get-more, get-last, lines-length, Stand, stands-more, stands-last, stands-length}
-use Rattle.linear_solver.proofs.Marking.{Marked, AreEarlier, earlier, needed-marked, needed-line, needed-length}
+use Rattle.linear_solver.proofs.Given.{get-more, Stand, stands-more, stands-last, stands-length}
+use Rattle.linear_solver.proofs.Marking.{Marked, earlier, needed-marked, needed-line, needed-length}
 use Rattle.linear_solver.proofs.Counting.{variables-few}
 
 -- ---- lists with one more at the end

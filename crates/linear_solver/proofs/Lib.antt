@@ -14,3 +14,4 @@ pub mod Refuting
 pub mod Marking
 pub mod Keeping
 pub mod Proving
+pub mod Room

@@ -1,5 +1,5 @@
 -- Where the elimination proves a goal, its steps mean lines that prove it.
-use Rattle.std.proofs.Common.{◌≡◌, ℕ, zero, suc, ◌<◌, ◌≤◌, ℤ, pos, ◌-ℤ◌, neg_ℤ, Bool, true, false, cond, nat_lt, List, [], length, All, Result, Ok, Err, refl, sym, ◌∙◌, ap, subst, arith}
+use Rattle.std.proofs.Common.{◌≡◌, ℕ, zero, suc, ℤ, pos, ◌-ℤ◌, neg_ℤ, Bool, true, false, cond, nat_lt, List, [], length, All, Result, Ok, Err, refl, sym, ◌∙◌, ap, subst}
 use Rattle.xan_lin.specs.Terms.{IsRising, negated_terms}
 use Rattle.xan_lin.specs.Linear.{Linear, IsForm, are_within, sized, negated_row_of}
 use Rattle.xan_lin.specs.declared.term.Term.{Term}
@@ -19,7 +19,7 @@ use Rattle.linear_solver.specs.declared.source.Look.{Look}
 use Rattle.linear_solver.specs.declared.source.Look.TheVariants.{Full, Refuted, Spent, Take}
 use Rattle.linear_solver.specs.Systems.{Row, next_rows}
 use Rattle.linear_solver.specs.Choosing.{look_at}
-use Rattle.linear_solver.specs.Numbering.{System, numbered}
+use Rattle.linear_solver.specs.Numbering.{numbered}
 use Rattle.linear_solver.specs.Cone.{cone}
 use Rattle.linear_solver.specs.Elimination.{ended, after_look, after_rows, rounds, first_rows, in_cone, from_start, refutation, answer_of, steps_of, elimination, proof_steps}
 use Rattle.linear_solver.specs.Meaning.{lines_meant}

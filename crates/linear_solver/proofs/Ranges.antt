@@ -1,5 +1,5 @@
 -- Numbers of rows against bounds.
-use Rattle.std.proofs.Common.{◌≡◌, ℕ, zero, suc, ◌+◌, ◌/◌, ◌<◌, ◌≤◌, ◌^◌, ℤ, pos, Bool, true, false, cond, ◌&&◌, ◌==◌, nat_lt, unsigned_abs, List, [], ◌∷◌, length, filter, IsTrue, refl, sym, ◌∙◌, ap, subst, arith}
+use Rattle.std.proofs.Common.{◌≡◌, ℕ, ◌<◌, ◌≤◌, ◌^◌, pos, Bool, true, false, cond, ◌==◌, nat_lt, unsigned_abs, List, [], ◌∷◌, length, filter, refl, arith}
 use Rattle.xan_lin.specs.Linear.{is_within, all_within}
 use Rattle.xan_lin.specs.declared.term.Term.{Term}
 use Rattle.xan_lin.proofs.Booleans.{is_less}

@@ -1,28 +1,25 @@
 -- The rounds keep that steps give the rows of each system, so that what they end with is a row that cannot hold and that steps give.
-use Rattle.std.proofs.Common.{◌≡◌, ℕ, zero, suc, ◌+◌, ◌*◌, ◌/◌, ◌%◌, ◌<◌, ◌≤◌, ℤ, pos, negsuc, ◌≤ℤ◌, ◌<ℤ◌, Bool, true, false, cond, ◌&&◌, ◌||◌, nat_lt, int_lt, unsigned_abs, List, [], ◌∷◌, ◌++◌, length, filter, get_or, Option, Some, None, Result, Ok, Err, slice_get, IsTrue, All, Contains, refl, sym, ◌∙◌, ap, subst, arith}
+use Rattle.std.proofs.Common.{◌≡◌, ℕ, zero, suc, ◌+◌, ◌*◌, ◌/◌, ◌%◌, ◌<◌, ◌≤◌, ℤ, pos, negsuc, ◌≤ℤ◌, ◌<ℤ◌, Bool, true, false, cond, ◌||◌, nat_lt, int_lt, unsigned_abs, List, [], ◌∷◌, ◌++◌, length, filter, get_or, Option, Some, None, Result, Ok, Err, slice_get, All, Contains, refl, sym, ◌∙◌, ap, subst, arith}
 use Rattle.std.specs.List.{slice_index_or}
 use Rattle.std.proofs.lemmas.Int.{ints}
 use Rattle.std.proofs.Math.Nat.{mod-add-div'}
 use Rattle.std.proofs.lemmas.Nat.Gcd.{le_of_dvd}
-use Rattle.std.proofs.lemmas.List.{append_assoc, append-nil, length-append}
+use Rattle.std.proofs.lemmas.List.{append_assoc, length-append}
 use Rattle.std.proofs.lemmas.List.Elements.{All-contains, Contains-append_right}
-use Rattle.xan_lin.specs.Terms.{IsRising}
-use Rattle.xan_lin.specs.Linear.{Linear, IsForm, are_within, negated_row_of}
+use Rattle.xan_lin.specs.Linear.{Linear, IsForm, are_within}
 use Rattle.xan_lin.specs.Subst.{zero_form}
 use Rattle.xan_lin.specs.declared.term.Term.{Term}
 use Rattle.xan_lin.specs.declared.term.LimitKind.{LimitKind}
 use Rattle.xan_lin.specs.declared.term.LimitKind.TheVariants as limit
 use Rattle.index_sorts.specs.Known.{no_terms}
-use Rattle.proof_lines.specs.Rows.{opposite_of, combination_of, IsRefutation}
-use Rattle.proof_lines.specs.Lines.{LineGives, LinesGive, IsSmall}
-use Rattle.proof_lines.specs.Cells.{IsProper, AreProper, are_among}
+use Rattle.proof_lines.specs.Rows.{opposite_of, IsRefutation}
+use Rattle.proof_lines.specs.Lines.{IsSmall}
+use Rattle.proof_lines.specs.Cells.{IsProper, are_among}
 use Rattle.proof_lines.proofs.Proper.{both, join, proper-at, proper-combination}
-use Rattle.linear_solver.specs.declared.answer.Answer.{Answer}
-use Rattle.linear_solver.specs.declared.answer.Answer.TheVariants as answer
 use Rattle.linear_solver.specs.declared.step.Step.{Step}
 use Rattle.linear_solver.specs.declared.step.Step.TheVariants as step
 use Rattle.linear_solver.specs.declared.source.Source.{Source}
-use Rattle.linear_solver.specs.declared.source.Source.TheVariants.{Line, New}
+use Rattle.linear_solver.specs.declared.source.Source.TheVariants.{New}
 use Rattle.linear_solver.specs.declared.source.Sign.{Sign}
 use Rattle.linear_solver.specs.declared.source.Sign.TheVariants.{Positive, Negative, Zero}
 use Rattle.linear_solver.specs.declared.source.Look.{Look}
@@ -31,14 +28,14 @@ use Rattle.linear_solver.specs.declared.choose.Choice.{Choice}
 use Rattle.linear_solver.specs.Divisors.{gcd_within, gcd}
 use Rattle.linear_solver.specs.Systems.{Row, linear_of, tight, settle, reduced_onto, coefficient, has_sign, with_sign, first_by, second_by, line_of, sum_of_two, sum_source, size, limited, bounded, with_sum, and_then, with_sums, with_all_sums, next_rows}
 use Rattle.linear_solver.specs.Choosing.{cannot_hold, refuted_by, best_from, refuted_or, look_at}
-use Rattle.linear_solver.specs.Numbering.{System, numbered}
-use Rattle.linear_solver.specs.Cone.{touches, cone}
+use Rattle.linear_solver.specs.Numbering.{numbered}
+use Rattle.linear_solver.specs.Cone.{touches}
 use Rattle.linear_solver.specs.Tracing.{traced}
 use Rattle.linear_solver.specs.Elimination.{ended, after_look, after_rows, rounds, bears, with_hyps, first_rows}
 use Rattle.linear_solver.proofs.Euclid.{gcd_is}
 use Rattle.linear_solver.proofs.Closing.{Closed}
-use Rattle.linear_solver.proofs.Given.{small-at, Stand}
-use Rattle.linear_solver.proofs.Sourced.{SourceGives, AreSourced, Given, AreGiven, tight-sourced, settle-sourced, Numbers, numbers}
+use Rattle.linear_solver.proofs.Given.{Stand}
+use Rattle.linear_solver.proofs.Sourced.{SourceGives, AreSourced, Given, AreGiven, tight-sourced, settle-sourced, numbers}
 
 -- ---- multipliers are at least 1
 

@@ -1,8 +1,6 @@
 -- How far the rounds have come.
 use Rattle.std.proofs.Common.{◌≡◌, ℕ, zero, suc, ◌+◌, ◌-◌, ◌<◌, ◌≤◌, List, [], Result, Ok, Err, refl, sym, ◌∙◌, ap, subst, arith}
-use Rattle.xan_lin.specs.declared.term.LimitKind.{LimitKind}
 use Rattle.linear_solver.specs.declared.answer.Answer.{Answer}
-use Rattle.linear_solver.specs.declared.answer.Answer.TheVariants as answer
 use Rattle.linear_solver.specs.declared.step.Step.{Step}
 use Rattle.linear_solver.specs.declared.stop.Stop.{Stop}
 use Rattle.linear_solver.specs.declared.stop.Stop.TheVariants as stop

@@ -1,14 +1,13 @@
 -- Rows in the making: each has a source that gives it, and what was done to it since then. They keep that when they are reduced and numbered.
-use Rattle.std.proofs.Common.{◌≡◌, ℕ, zero, suc, ◌+◌, ◌<◌, ◌≤◌, ℤ, pos, negsuc, ◌≤ℤ◌, Bool, true, false, cond, ◌⊎◌, inl, inr, nat_lt, int_lt, int_le, List, [], ◌∷◌, ◌++◌, length, Some, slice_get, IsTrue, refl, sym, ◌∙◌, ap, subst, arith}
+use Rattle.std.proofs.Common.{◌≡◌, ℕ, ℤ, pos, negsuc, ◌≤ℤ◌, Bool, true, false, cond, ◌⊎◌, inl, inr, nat_lt, int_lt, List, [], ◌∷◌, ◌++◌, length, Some, slice_get, refl, sym, ◌∙◌, ap, subst, arith}
 use Rattle.std.proofs.lemmas.Int.{ints}
 use Rattle.std.proofs.lemmas.Bool.Decides.{nat_tests}
 use Rattle.std.proofs.lemmas.List.{append_assoc, append-nil}
-use Rattle.xan_lin.specs.Linear.{Linear, are_within}
-use Rattle.proof_lines.specs.declared.line.Line.{Line as ProofLine}
+use Rattle.xan_lin.specs.Linear.{Linear}
 use Rattle.proof_lines.specs.Rows.{divides, cut_of}
-use Rattle.proof_lines.specs.Lines.{LineGives, LinesGive, IsSmall}
+use Rattle.proof_lines.specs.Lines.{LineGives, IsSmall}
 use Rattle.proof_lines.specs.Check.{is_positive}
-use Rattle.proof_lines.specs.Cells.{IsProper, AreProper}
+use Rattle.proof_lines.specs.Cells.{IsProper}
 use Rattle.proof_lines.proofs.Proper.{proper-cut, proper-at}
 use Rattle.proof_lines.proofs.Quotients.{cut-small}
 use Rattle.linear_solver.specs.declared.step.Step.{Step}
@@ -16,7 +15,7 @@ use Rattle.linear_solver.specs.declared.step.Step.TheVariants as step
 use Rattle.linear_solver.specs.declared.source.Source.{Source}
 use Rattle.linear_solver.specs.declared.source.Source.TheVariants.{Line, New}
 use Rattle.linear_solver.specs.Divisors.{divisor}
-use Rattle.linear_solver.specs.Systems.{Row, linear_of, row_of, divided_by, tight, same_terms, holds, lesser, placed, settle, line_of}
+use Rattle.linear_solver.specs.Systems.{Row, linear_of, row_of, divided_by, tight, same_terms, holds, placed, settle}
 use Rattle.linear_solver.specs.Numbering.{with_source, source_line, with_cut, cut_line, steps_with, line_with, at_line, System, numbered}
 use Rattle.linear_solver.specs.Meaning.{line_meant, lines_meant}
 use Rattle.linear_solver.proofs.Given.{get-more, gives-more, small-at, Stand, stands-more, stands-last}

@@ -1,5 +1,5 @@
 -- The terms of a tightened row rise and stay within the bound.
-use Rattle.std.proofs.Common.{◌≡◌, ℕ, zero, suc, ◌<◌, ℤ, pos, negsuc, ◌<ℤ◌, Bool, true, false, int_le, ◌&&◌, nat_lt, List, [], map, refl, sym, ◌∙◌, ap, subst, arith}
+use Rattle.std.proofs.Common.{◌≡◌, ℕ, ◌<◌, ℤ, pos, ◌<ℤ◌, true, false, int_le, List, [], map, refl, sym, ◌∙◌, ap, subst, arith}
 use Rattle.std.proofs.lemmas.Int.{ints}
 use Rattle.xan_lin.specs.Terms.{IsRising}
 use Rattle.xan_lin.specs.Linear.{Linear, is_within, all_within}
@@ -12,7 +12,6 @@ use Rattle.proof_lines.proofs.Proper.{both, join, placed-with_terms, proper-cut}
 use Rattle.proof_lines.proofs.Quotients.{cut-small}
 use Rattle.linear_solver.specs.Divisors.{divisor}
 use Rattle.linear_solver.specs.Merging.{IsRow}
-use Rattle.linear_solver.specs.Systems.{Row}
 use Rattle.linear_solver.specs.declared.source.Source.{Source}
 use Rattle.linear_solver.proofs.Dividing.{divisor-divides}
 

@@ -14,7 +14,7 @@ use Rattle.linear_solver.specs.declared.source.Look.{Look}
 use Rattle.linear_solver.specs.declared.source.Look.TheVariants.{Full, Refuted, Spent, Take}
 use Rattle.linear_solver.specs.Systems.{Row, tight, settle, next_rows}
 use Rattle.linear_solver.specs.Choosing.{look_at}
-use Rattle.linear_solver.specs.Numbering.{System, numbered}
+use Rattle.linear_solver.specs.Numbering.{numbered}
 use Rattle.linear_solver.specs.Tracing.{traced}
 use Rattle.linear_solver.specs.Cone.{touches, cone}
 

@@ -1,5 +1,5 @@
 -- Systems of rows: how a row is tightened, how a list of rows is reduced, and what comes of two rows.
-use Rattle.std.specs.Prelude.{ℕ, ◌/◌, ℤ, pos, Bool, ◌&&◌, List, [], ◌∷◌, ◌++◌, length, filter, ◌==◌, nat_lt, int_lt, int_le, unsigned_abs, Result, Ok, Err, if◌then◌else◌}
+use Rattle.std.specs.Prelude.{ℕ, ◌/◌, ℤ, pos, Bool, ◌&&◌, List, [], ◌∷◌, length, filter, ◌==◌, nat_lt, int_lt, int_le, unsigned_abs, Result, Ok, Err, if◌then◌else◌}
 use Rattle.std.specs.Ordering.{int_eq}
 use Rattle.std.specs.Cmp.Lexicographic.{pointwise}
 use Rattle.xan_lin.specs.Linear.{Linear, are_within}

@@ -7,7 +7,7 @@ ghost use Rattle.linear_solver.specs.Meaning.{lines_meant, line_meant};
 use crate::step::Step;
 use index_sorts::Context;
 use proof_lines::Line;
-use std::alloc::{AllocError, Global};
+use std::alloc::Global;
 use std::marker::Model;
 use xan_lin::{Form, Memory};
 
@@ -65,20 +65,17 @@ impl LineBuf {
         self.steps.clear();
     }
 
-    /// Puts a step behind the others and answers its number.
-    pub(crate) fn push(&mut self, step: Step) -> Result<u32, AllocError>
-        ensures number { IfOk result (λ number. number ≡ length self.old) }
-        ensures pushed { OnOk result (self.new ≡ self.old ++ step ∷ []) }
-        ensures full { OnErr result (length self.old ≡ 257026) }
+    /// Puts a step behind the others, for which there is room, and answers its number.
+    pub(crate) fn push(&mut self, step: Step) -> u32
+        requires { length self.old < 257026 }
+        ensures number { result ≡ length self.old }
+        ensures pushed { self.new ≡ self.old ++ step ∷ [] }
     {
         let number = self.steps.len();
-        if number >= MOST_STEPS {
-            return Err(AllocError);
-        }
         let Ok(()) = self.steps.push(step) else {
             unreachable!()
         };
-        Ok(number as u32)
+        number as u32
     }
 
     /// Puts these steps in place of all others.

@@ -46,6 +46,7 @@ fn rounds(
     made: &mut Reduced,
     buf: &mut LineBuf,
 ) -> Result<Answer, Stop>
+    requires { length buf.old ≤ 1026 }
     ensures { Answers result buf.new (rounds 64 vars.now buf.old first.items) }
 {
     let mut rows = first;

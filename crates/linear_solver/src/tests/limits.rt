@@ -58,18 +58,16 @@ fn variables_of_the_cone(rt: HostRuntime) -> Result<(), Fail> {
 
 // The row of k: v0 + k v1 - k³ v2, or its opposite.
 fn curve(k: i64, by: i64) -> Option<Form> {
-    if k < 1 || k > 256 || (by != 1 && by != -1) {
-        return None;
-    }
+    let cube = k.checked_mul(k)?.checked_mul(k)?;
     form(&[
         Term { var: 0, coef: by },
         Term {
             var: 1,
-            coef: by * k,
+            coef: k.checked_mul(by)?,
         },
         Term {
             var: 2,
-            coef: -(by * k * k * k),
+            coef: cube.checked_mul(by)?.checked_neg()?,
         },
     ])
 }

@@ -1,6 +1,5 @@
-use Rattle.std.proofs.Common.{rules, w64, FitsSigned, ◌∙◌, ap, arith, pos, to_z, of_z}
+use Rattle.std.proofs.Common.{rules, w64, FitsSigned, ◌∙◌, ap}
 use Rattle.std.proofs.lemmas.Int.{to_z-of_z}
-use Rattle.std.proofs.lemmas.Bool.Decides.{nat_tests}
 use Rattle.xan_lin.specs.Linear.{is_within}
 use Rattle.linear_solver.proofs.Sums.{combines_past, combines_more, combined_is, fewer, starts, some_left, none_left}
 use Rattle.linear_solver.proofs.combine.combined.Goals as goal

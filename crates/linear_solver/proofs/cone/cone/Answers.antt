@@ -1,4 +1,4 @@
-use Rattle.std.proofs.Common.{◌≡◌, ◌∙◌, sym, ap, arith}
+use Rattle.std.proofs.Common.{arith}
 use Rattle.linear_solver.proofs.Reaching.{walks_none, walks_past, walks_more, walks_same, walks_all, few_of}
 use Rattle.linear_solver.proofs.cone.cone.Goals as goal
 

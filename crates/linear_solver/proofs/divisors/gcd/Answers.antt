@@ -1,4 +1,4 @@
-use Rattle.std.proofs.Common.{sym, ◌∙◌, arith, ◌<◌}
+use Rattle.std.proofs.Common.{sym, ◌∙◌, arith}
 use Rattle.linear_solver.proofs.Euclid.{gcd-step, gcd-end}
 use Rattle.linear_solver.proofs.divisors.gcd.Goals as goal
 

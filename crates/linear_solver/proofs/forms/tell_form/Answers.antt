@@ -1,4 +1,4 @@
-use Rattle.std.proofs.Common.{◌∙◌, sym, ap, length, List, arith, ◌≤◌, subst}
+use Rattle.std.proofs.Common.{ap, length, arith, subst}
 use Rattle.xan_lin.specs.Terms.{IsRising}
 use Rattle.xan_lin.specs.Linear.{is_within, all_within}
 use Rattle.proof_lines.proofs.Proper.{both}
