@@ -1,4 +1,5 @@
 pub mod Binds
+pub mod Choices
 pub mod Integers
 pub mod Parts
 pub mod Scopes
