@@ -26,3 +26,6 @@ mod walk;
 
 pub use error::{ShapeError, ShapeKind};
 pub use walk::resolve;
+
+#[cfg(test)]
+mod tests;

@@ -28,12 +28,12 @@ statement-returns-in_err-no-in-If t c =
     let second : Check (spec.Body × Locals) = spec.branch g c.args.given no_branch (locals_of c.block.new.locals) in
     let failed : Fails c.in_err-no-in-If.field-0.0 second = search rules in
     let same : spec.statement g c.args.given (plain_statement c.args.statement.now) l ≡ (second >>= behind_no g c.args.given join c.in-If.at it (body_of c.in_ok-yes-in-If.yes)) =
-        ap (λ s. spec.statement g c.args.given (plain_statement s) l) c.in-If.is
-        ∙ ap (λ s. spec.statement g c.args.given s l) (plain_statement-If c.in-If.test c.in-If.on_true c.in-If.on_false c.in-If.join c.in-If.at)
-        ∙ if-branches g c.args.given join c.in-If.at (plain_expression c.in-If.test) (plain_block c.in-If.on_true) no_branch l it (body_of c.in_ok-yes-in-If.yes) (locals_of c.block.new.locals) tested first in
+    ap (λ s. spec.statement g c.args.given (plain_statement s) l) c.in-If.is
+    ∙ ap (λ s. spec.statement g c.args.given s l) (plain_statement-If c.in-If.test c.in-If.on_true c.in-If.on_false c.in-If.join c.in-If.at)
+    ∙ if-branches g c.args.given join c.in-If.at (plain_expression c.in-If.test) (plain_block c.in-If.on_true) no_branch l it (body_of c.in_ok-yes-in-If.yes) (locals_of c.block.new.locals) tested first in
     let key : Fails c.in_err-no-in-If.field-0.0 (spec.statement g c.args.given (plain_statement c.args.statement.now) l) =
-        subst (λ w. Fails c.in_err-no-in-If.field-0.0 w) (sym same)
-        (fails-then c.in_err-no-in-If.field-0.0 second (behind_no g c.args.given join c.in-If.at it (body_of c.in_ok-yes-in-If.yes)) failed) in
+    subst (λ w. Fails c.in_err-no-in-If.field-0.0 w) (sym same)
+    (fails-then c.in_err-no-in-If.field-0.0 second (behind_no g c.args.given join c.in-If.at it (body_of c.in_ok-yes-in-If.yes)) failed) in
     search (rules, key)
 
 pub statement-returns-in_err-join-in-If : goal.statement-returns-in_err-join-in-If
@@ -51,13 +51,13 @@ statement-returns-in_err-join-in-If t c =
     let third : Check (Option Clause × Locals) = spec.clause_or_none g.types join (locals_of c.branch-on_false.new.locals) in
     let failed : Fails c.in_err-join-in-If.field-0.0 third = search rules in
     let same : spec.statement g c.args.given (plain_statement c.args.statement.now) l ≡ (third >>= behind_join g c.args.given join c.in-If.at it yes_body no_body) =
-        ap (λ s. spec.statement g c.args.given (plain_statement s) l) c.in-If.is
-        ∙ ap (λ s. spec.statement g c.args.given s l) (plain_statement-If c.in-If.test c.in-If.on_true c.in-If.on_false c.in-If.join c.in-If.at)
-        ∙ if-branches g c.args.given join c.in-If.at (plain_expression c.in-If.test) (plain_block c.in-If.on_true) no_branch l it yes_body (locals_of c.block.new.locals) tested first
-        ∙ then-ok (spec.branch g c.args.given no_branch (locals_of c.block.new.locals)) (behind_no g c.args.given join c.in-If.at it yes_body) (no_body, locals_of c.branch-on_false.new.locals) second in
+    ap (λ s. spec.statement g c.args.given (plain_statement s) l) c.in-If.is
+    ∙ ap (λ s. spec.statement g c.args.given s l) (plain_statement-If c.in-If.test c.in-If.on_true c.in-If.on_false c.in-If.join c.in-If.at)
+    ∙ if-branches g c.args.given join c.in-If.at (plain_expression c.in-If.test) (plain_block c.in-If.on_true) no_branch l it yes_body (locals_of c.block.new.locals) tested first
+    ∙ then-ok (spec.branch g c.args.given no_branch (locals_of c.block.new.locals)) (behind_no g c.args.given join c.in-If.at it yes_body) (no_body, locals_of c.branch-on_false.new.locals) second in
     let key : Fails c.in_err-join-in-If.field-0.0 (spec.statement g c.args.given (plain_statement c.args.statement.now) l) =
-        subst (λ w. Fails c.in_err-join-in-If.field-0.0 w) (sym same)
-        (fails-then c.in_err-join-in-If.field-0.0 third (behind_join g c.args.given join c.in-If.at it yes_body no_body) failed) in
+    subst (λ w. Fails c.in_err-join-in-If.field-0.0 w) (sym same)
+    (fails-then c.in_err-join-in-If.field-0.0 third (behind_join g c.args.given join c.in-If.at it yes_body no_body) failed) in
     search (rules, key)
 
 pub statement-returns-in_ok-join-in-If : goal.statement-returns-in_ok-join-in-If

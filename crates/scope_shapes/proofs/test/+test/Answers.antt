@@ -37,10 +37,10 @@ conjunction_test-returns-in_err-all_tests t c =
     let all : Check (List core.Test) = spec.all_tests g l (negations_of node.rest.items) (plain_test c.in_ok-first.first ∷ []) in
     let failed : Fails c.in_err-all_tests.field-0.0 all = search rules in
     let same : spec.conjunction_test g l (plain_conjunction c.args.c.now) ≡ (all >>= all_of) =
-        ap (λ n. spec.conjunction_test g l n) (plain_conjunction-out c.args.c.now)
-        ∙ conjunction-all g l (plain_negation node.first) (negations_of node.rest.items) node.at (plain_test c.in_ok-first.first) first some in
+    ap (λ n. spec.conjunction_test g l n) (plain_conjunction-out c.args.c.now)
+    ∙ conjunction-all g l (plain_negation node.first) (negations_of node.rest.items) node.at (plain_test c.in_ok-first.first) first some in
     let key : Fails c.in_err-all_tests.field-0.0 (spec.conjunction_test g l (plain_conjunction c.args.c.now)) =
-        subst (λ w. Fails c.in_err-all_tests.field-0.0 w) (sym same) (fails-then c.in_err-all_tests.field-0.0 all all_of failed) in
+    subst (λ w. Fails c.in_err-all_tests.field-0.0 w) (sym same) (fails-then c.in_err-all_tests.field-0.0 all all_of failed) in
     search (rules, key)
 
 pub test-returns : goal.test-returns
@@ -66,8 +66,8 @@ test-returns-in_err-any_tests t c =
     let all : Check (List core.Test) = spec.any_tests g l (conjunctions_of node.rest.items) (plain_test c.in_ok-first.first ∷ []) in
     let failed : Fails c.in_err-any_tests.field-0.0 all = search rules in
     let same : spec.test g l (plain_expression c.args.e.now) ≡ (all >>= any_of) =
-        ap (λ n. spec.test g l n) (plain_expression-out c.args.e.now)
-        ∙ test-any g l (plain_conjunction node.first) (conjunctions_of node.rest.items) node.at (plain_test c.in_ok-first.first) first some in
+    ap (λ n. spec.test g l n) (plain_expression-out c.args.e.now)
+    ∙ test-any g l (plain_conjunction node.first) (conjunctions_of node.rest.items) node.at (plain_test c.in_ok-first.first) first some in
     let key : Fails c.in_err-any_tests.field-0.0 (spec.test g l (plain_expression c.args.e.now)) =
-        subst (λ w. Fails c.in_err-any_tests.field-0.0 w) (sym same) (fails-then c.in_err-any_tests.field-0.0 all any_of failed) in
+    subst (λ w. Fails c.in_err-any_tests.field-0.0 w) (sym same) (fails-then c.in_err-any_tests.field-0.0 all any_of failed) in
     search (rules, key)
