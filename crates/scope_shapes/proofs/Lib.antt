@@ -1,4 +1,6 @@
 pub mod Binds
+pub mod Branches
+pub mod Choices
 pub mod Integers
 pub mod Parts
 pub mod Scopes

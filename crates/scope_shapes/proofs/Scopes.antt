@@ -59,7 +59,7 @@ kept-undone : {S : Type 0} (old new : Index S) (ds : List Declared) (d : Declare
 kept-undone old new ds d kept sets = record {
   now = λ other.
       let same : bytes_eq d.name.now other ≡ true → d.before ≡ meaning other (seen ds) =
-          λ t. kept.before.0 ∙ ap (λ n. meaning n (seen ds)) ((bytes_eq-Decides d.name.now other).0 t) in
+      λ t. kept.before.0 ∙ ap (λ n. meaning n (seen ds)) ((bytes_eq-Decides d.name.now other).0 t) in
       current-set d.name.now old new d.before sets other
       ∙ ap (λ x. cond (bytes_eq d.name.now other) d.before x) (kept.now other ∙ sym (meaning-behind d.name.now d.number (seen ds) other))
       ∙ restored (bytes_eq d.name.now other) d.before (meaning other (seen ds)) d.number same;
@@ -72,8 +72,8 @@ declared-present : (entries : List (Bor (List ℕ) × Option ℕ)) (ds : List De
 declared-present entries ds d kept absent =
     let here : bytes_eq d.name.now d.name.now ≡ true = (bytes_eq-Decides d.name.now d.name.now).1 refl in
     let none : None ≡ Some d.number =
-        sym (ap or_nothing absent) ∙ kept.now d.name.now ∙ sym (meaning-behind d.name.now d.number (seen ds) d.name.now)
-        ∙ ap (λ b. cond b (Some d.number) (meaning d.name.now (seen ds))) here in
+    sym (ap or_nothing absent) ∙ kept.now d.name.now ∙ sym (meaning-behind d.name.now d.number (seen ds) d.name.now)
+    ∙ ap (λ b. cond b (Some d.number) (meaning d.name.now (seen ds))) here in
     cc
 
 -- ---- the list of declarations, the latest last

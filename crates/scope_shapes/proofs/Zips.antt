@@ -16,3 +16,8 @@ unfolding funs
 funs-seen [] bs = refl
 funs-seen (h ∷ hs) [] = refl
 funs-seen (h ∷ hs) (b ∷ bs) = ap (λ fs. made_of (h, b) ∷ fs) (funs-seen hs bs)
+
+-- what a loop over both was given, pair by pair
+pub made-again : (ps : List (Header × Inner)) → map made_of ps ≡ map made_of (map (λ p. (p.0, p.1)) ps)
+made-again [] = refl
+made-again (p ∷ ps) = ap (λ fs. made_of p ∷ fs) (made-again ps)

@@ -13,7 +13,7 @@ use crate::clause::clause_or_none;
 use crate::error::{ShapeError, ShapeKind};
 use crate::places::place_of_statement;
 use crate::simple::{
-    and_then, assign, called, choice, declare, empty, printed, returned, split, turns, Body, Done,
+    Body, Done, and_then, assign, called, choice, declare, empty, printed, returned, split, turns,
 };
 use crate::site::{Globals, Locals, Site};
 use crate::test::test;

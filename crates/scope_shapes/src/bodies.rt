@@ -41,10 +41,7 @@ fn next_number(number: u32) -> Result<u32, Memory>
 
 /// The names of parameters, numbered from 0.
 #[tactic(auto, unfolding(crate::specs::Shape::parameter_names))]
-fn parameter_names<'a>(
-    alloc: Global,
-    mut parameters: &'a [Parameter],
-) -> Result<Scope<'a>, Memory>
+fn parameter_names<'a>(alloc: Global, mut parameters: &'a [Parameter]) -> Result<Scope<'a>, Memory>
     ensures { IfOk result (λ x. x ≡ spec.parameter_names (map plain_parameter parameters.entry.now) 0 []) }
 {
     let mut scope = Scope::new(alloc);

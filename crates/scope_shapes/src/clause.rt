@@ -11,11 +11,11 @@ ghost use Rattle.scope_shapes.specs.Statements as spec;
 ghost use Rattle.scope_shapes.specs.TypesOf.{types_of};
 
 use crate::error::{ShapeError, ShapeKind};
-use crate::frame::{open, Frame};
+use crate::frame::{Frame, open};
 use crate::index::known;
 use crate::kinds::{kind_of, same_kind};
-use crate::site::{kind_of_variable, Locals};
-use crate::types::{place_of_type, type_in, Types};
+use crate::site::{Locals, kind_of_variable};
+use crate::types::{Types, place_of_type, type_in};
 use std::alloc::Global;
 use std::collections::BTreeSet;
 use xan_seq::Seq;

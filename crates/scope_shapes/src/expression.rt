@@ -17,7 +17,7 @@ use crate::places::{
     has_addend, has_factor, place_of, place_of_postfix, place_of_product, place_of_sum,
     place_of_unary,
 };
-use crate::site::{asked, asked_array, called, made, variable, Site, Typed};
+use crate::site::{Site, Typed, asked, asked_array, called, made, variable};
 use crate::types::element_number;
 use xanadu_tree::{
     Comparison, Conjunction, CoreExpr, CoreTy, Expression, Identifier, Kind, Negation, Op, Postfix,
@@ -273,11 +273,7 @@ pub fn call(
 /// A tuple that is made.
 #[cycle(expression)]
 #[tactic(auto, using(xanadu_tree::proofs::TreeEquations::plain_nodes), unfolding(crate::specs::Expressions::primary))]
-fn tuple(
-    given: &[Expression],
-    site: &Site<'_, '_>,
-    name: &Identifier,
-) -> Result<Typed, ShapeError>
+fn tuple(given: &[Expression], site: &Site<'_, '_>, name: &Identifier) -> Result<Typed, ShapeError>
     ensures { Gives typed_of result (spec.primary (globals_of site.now.globals.now) (locals_of site.now.locals.now) (plain.Make name.now (plain_expressions given.now))) }
 {
     let ty = made(site.globals, name, count(given))?;

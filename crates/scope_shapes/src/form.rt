@@ -130,11 +130,7 @@ pub fn within(whole: Sign, part: Sign) -> Sign
 pub fn first_sign(negative: bool) -> Sign
     ensures { result ≡ spec.first_sign negative }
 {
-    if negative {
-        Sign::Minus
-    } else {
-        Sign::Plus
-    }
+    if negative { Sign::Minus } else { Sign::Plus }
 }
 
 /// The number with the sign.

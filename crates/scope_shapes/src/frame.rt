@@ -9,7 +9,7 @@ ghost use Rattle.scope_shapes.specs.Linears as linears;
 ghost use Rattle.scope_shapes.specs.Quantifiers as spec;
 
 use crate::error::{ShapeError, ShapeKind};
-use crate::form::{lone, variable_form, Form};
+use crate::form::{Form, lone, variable_form};
 use crate::index::{add_index, add_relations};
 use crate::scope::Scope;
 use std::alloc::Global;

@@ -11,11 +11,11 @@ ghost use Rattle.scope_shapes.specs.Names.{no_types};
 ghost use Rattle.scope_shapes.specs.TypesOf.{types_of};
 
 use crate::error::{ShapeError, ShapeKind};
-use crate::frame::{open, Frame};
+use crate::frame::{Frame, open};
 use crate::kinds::kind_of;
 use crate::scope::Scope;
 use crate::table::Table;
-use crate::types::{narrowed, type_in, types_in, Types};
+use crate::types::{Types, narrowed, type_in, types_in};
 use std::alloc::Global;
 use xan_seq::Seq;
 use xanadu_tree::{

@@ -8,12 +8,10 @@ ghost use Rattle.scope_shapes.specs.Linears as spec;
 ghost use Rattle.scope_shapes.specs.Names.{meaning, or_unknown};
 
 use crate::error::{ShapeError, ShapeKind};
-use crate::form::{first_sign, opposite, signed, within, Form};
+use crate::form::{Form, first_sign, opposite, signed, within};
 use crate::scope::Scope;
 use std::alloc::Global;
-use xanadu_tree::{
-    Identifier, IndexExpression, IndexRelation, IndexTerm, Linear, Relation, Sign,
-};
+use xanadu_tree::{Identifier, IndexExpression, IndexRelation, IndexTerm, Linear, Relation, Sign};
 
 /// What a name means, or the fault that it means nothing.
 pub fn known(scope: &Scope<'_>, name: &Identifier) -> Result<u32, ShapeError>
@@ -79,7 +77,12 @@ pub fn add_index(
 ) -> Result<(), ShapeError>
     ensures { Gives (λ _. form_of form.new) result (spec.index_in scope.now side (plain_index index.now) (form_of form.old)) }
 {
-    add_term(scope, within(side, first_sign(index.negative)), &index.first, form)?;
+    add_term(
+        scope,
+        within(side, first_sign(index.negative)),
+        &index.first,
+        form,
+    )?;
     add_terms(scope, side, &index.rest, form)
 }
 

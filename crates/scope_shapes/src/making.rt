@@ -63,12 +63,7 @@ pub fn negated(alloc: Global, operand: CoreExpr) -> Result<Typed, Memory>
 
 /// A comparison.
 #[tactic(auto, using(xanadu_tree::proofs::Equations::plain_trees))]
-pub fn compared(
-    alloc: Global,
-    rel: Rel,
-    left: CoreExpr,
-    right: CoreExpr,
-) -> Result<Typed, Memory>
+pub fn compared(alloc: Global, rel: Rel, left: CoreExpr, right: CoreExpr) -> Result<Typed, Memory>
     ensures { IfOk result (λ x. typed_of x ≡ spec.compare rel (plain_expr left) (plain_expr right)) }
 {
     let left = Box::new(alloc, left)?;
@@ -142,12 +137,7 @@ pub fn new_array(
     let len = Box::new(alloc, len)?;
     let fill = Box::new(alloc, fill)?;
     Ok(Typed {
-        expr: CoreExpr::New {
-            ty,
-            len,
-            fill,
-            at,
-        },
+        expr: CoreExpr::New { ty, len, fill, at },
         kind: Kind::Array(ty),
     })
 }

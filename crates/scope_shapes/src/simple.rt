@@ -14,13 +14,11 @@ use crate::error::{ShapeError, ShapeKind};
 use crate::expression::{call, expression, indexed};
 use crate::kinds::{kind_at, parts_of};
 use crate::places::place_of;
-use crate::site::{asked, asked_tuple, asked_value, variable, Globals, Locals, Site, Typed};
+use crate::site::{Globals, Locals, Site, Typed, asked, asked_tuple, asked_value, variable};
 use std::alloc::Global;
 use xan_io::Memory;
 use xan_seq::Seq;
-use xanadu_tree::{
-    Clause, CoreExpr, CoreStmt, CoreTy, Expression, Identifier, Kind, Test,
-};
+use xanadu_tree::{Clause, CoreExpr, CoreStmt, CoreTy, Expression, Identifier, Kind, Test};
 
 /// A statement, and whether it completes.
 #[derive(Drop)]
@@ -171,11 +169,7 @@ pub fn split<'a>(
     let ty = asked_tuple(place_of(value), typed.kind)?;
     let parts = parts_for(globals, ty, names.len(), at)?;
     let numbers = split_names(alloc, locals, names, parts)?;
-    Ok(goes_on(CoreStmt::Split(
-        Seq::from_vec(numbers),
-        typed.expr,
-        at,
-    )))
+    Ok(goes_on(CoreStmt::Split(Seq::from_vec(numbers), typed.expr, at)))
 }
 
 /// A value written to what the left side reads: a variable, or a cell.

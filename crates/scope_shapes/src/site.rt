@@ -14,7 +14,7 @@ use crate::headers::{Functions, Header};
 use crate::index::known;
 use crate::kinds::{parts_of, same_kind};
 use crate::scope::Scope;
-use crate::types::{narrowed, tuple_type, Types};
+use crate::types::{Types, narrowed, tuple_type};
 use std::alloc::Global;
 use xan_io::Memory;
 use xanadu_tree::{CoreExpr, Identifier, Kind, Packing};

@@ -15,7 +15,7 @@ use crate::places::{
     has_addend, has_comparand, has_conjunction, has_factor, has_index, has_negation,
     place_of_primary,
 };
-use crate::site::{asked, Site, Typed};
+use crate::site::{Site, Typed, asked};
 use std::alloc::Global;
 use xanadu_tree::{
     Comparison, Conjunction, Expression, Kind, Negation, Postfix, Primary, Product, Sum, Test,

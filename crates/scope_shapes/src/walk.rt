@@ -13,9 +13,9 @@ ghost use Rattle.scope_shapes.specs.SitesOf.{globals_of};
 
 use crate::bodies::{Inner, funs, inners};
 use crate::error::{ShapeError, ShapeKind};
-use crate::headers::{headers, packings, type_names, Functions, Header};
+use crate::headers::{Functions, Header, headers, packings, type_names};
 use crate::kinds::kind_of;
-use crate::site::{header_at, Globals};
+use crate::site::{Globals, header_at};
 use crate::types::narrowed;
 use std::alloc::Global;
 use xan_io::Memory;
