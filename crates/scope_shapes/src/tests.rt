@@ -119,22 +119,15 @@ fn a_core_or_the_first_fault(rt: HostRuntime) {
 
 #[test]
 fn numbers_of_faults(rt: HostRuntime) {
-    let kinds = [
-        ShapeKind::NamedTwice,
-        ShapeKind::Unknown,
-        ShapeKind::OtherKind,
-        ShapeKind::Count,
-        ShapeKind::OutsideTest,
-        ShapeKind::NoIndex,
-        ShapeKind::CellType,
-        ShapeKind::Completes,
-        ShapeKind::Unreachable,
-        ShapeKind::NoMain,
-        ShapeKind::MainKind,
-    ];
-    let mut number = 0;
-    for kind in kinds {
-        number += 1;
-        assert_eq!(rt; kind.number(), number, "its number");
-    }
+    assert_eq!(rt; ShapeKind::NamedTwice.number(), 1);
+    assert_eq!(rt; ShapeKind::Unknown.number(), 2);
+    assert_eq!(rt; ShapeKind::OtherKind.number(), 3);
+    assert_eq!(rt; ShapeKind::Count.number(), 4);
+    assert_eq!(rt; ShapeKind::OutsideTest.number(), 5);
+    assert_eq!(rt; ShapeKind::NoIndex.number(), 6);
+    assert_eq!(rt; ShapeKind::CellType.number(), 7);
+    assert_eq!(rt; ShapeKind::Completes.number(), 8);
+    assert_eq!(rt; ShapeKind::Unreachable.number(), 9);
+    assert_eq!(rt; ShapeKind::NoMain.number(), 10);
+    assert_eq!(rt; ShapeKind::MainKind.number(), 11);
 }
