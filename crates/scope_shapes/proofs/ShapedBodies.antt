@@ -2,8 +2,8 @@
 use Rattle.std.proofs.Common.{◌≡◌, sym, ap, subst, Bool, true, false, List, [], ◌∷◌, ◌++◌, Ok, refl, ◌∙◌}
 use Rattle.std.specs.Prelude.{◌||◌}
 use Rattle.xanadu_tree.specs.declared.types.Kind.{Kind}
-use Rattle.core_rules.specs.KindRules.{Setting}
-use Rattle.core_rules.specs.BodyRules.{Point, behind_block as behind, completes, completes_all, MayFollow, IsStatement, AreStatements}
+use Rattle.xanadu_tree.specs.KindRules.{Setting}
+use Rattle.xanadu_tree.specs.BodyRules.{Point, behind_block as behind, completes, completes_all, MayFollow, IsStatement, AreStatements}
 use Rattle.xanadu_tree.specs.Plain as core
 use Rattle.xanadu_tree.specs.PlainOf.{to_stmts}
 use Rattle.xanadu_tree.specs.PlainTree as plain

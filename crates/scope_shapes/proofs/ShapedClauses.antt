@@ -12,9 +12,9 @@ use Rattle.xanadu_tree.specs.declared.types.CoreTy.{CoreTy}
 use Rattle.xanadu_tree.specs.declared.types.Kind.{Kind}
 use Rattle.xanadu_tree.specs.declared.types.Packing.{Packing}
 use Rattle.xanadu_tree.specs.declared.tree.index.Binder.{Binder}
-use Rattle.core_rules.specs.IndexRules.{Stretch, stretch_of}
-use Rattle.core_rules.specs.KindRules.{kind_of, IsAmong, Setting}
-use Rattle.core_rules.specs.BodyRules.{IsType, Point, stating, AreDifferent, IsStated, IsClauseIfAny}
+use Rattle.xanadu_tree.specs.IndexRules.{Stretch, stretch_of}
+use Rattle.xanadu_tree.specs.KindRules.{kind_of, IsAmong, Setting}
+use Rattle.xanadu_tree.specs.BodyRules.{IsType, Point, stating, AreDifferent, IsStated, IsClauseIfAny}
 use Rattle.xanadu_tree.specs.PlainTree as plain
 use Rattle.scope_shapes.specs.declared.error.ShapeKind.TheVariants.{NamedTwice, OtherKind}
 use Rattle.scope_shapes.specs.Kinds.{same_kind}

@@ -8,8 +8,8 @@ use Rattle.xanadu_tree.specs.declared.types.Kind.{Kind}
 use Rattle.xanadu_tree.specs.declared.types.Kind.TheVariants as kind
 use Rattle.xanadu_tree.specs.declared.types.Packing.{Packing}
 use Rattle.xanadu_tree.specs.declared.tree.declaration.Identifier.{Identifier}
-use Rattle.core_rules.specs.KindRules.{kind_of, IsValue, tuple_type, Setting, Header as Called, IsAmong, IsSomeLink, HasKind, AreNumbers, HaveKinds}
-use Rattle.core_rules.specs.Shaped.{IsPacking}
+use Rattle.xanadu_tree.specs.KindRules.{kind_of, IsValue, tuple_type, Setting, Header as Called, IsAmong, IsSomeLink, HasKind, AreNumbers, HaveKinds}
+use Rattle.xanadu_tree.specs.Shaped.{IsPacking}
 use Rattle.xanadu_tree.specs.Plain as core
 use Rattle.xanadu_tree.specs.PlainOf.{to_exprs, to_links}
 use Rattle.xanadu_tree.specs.PlainTree as plain

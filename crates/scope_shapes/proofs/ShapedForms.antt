@@ -14,7 +14,7 @@ use Rattle.xanadu_tree.specs.declared.tree.index.IndexTerm.{IndexTerm}
 use Rattle.xanadu_tree.specs.declared.tree.index.IndexTerm.TheVariants as term
 use Rattle.xanadu_tree.specs.declared.tree.index.Sign.{Sign}
 use Rattle.xanadu_tree.specs.declared.tree.index.Sign.TheVariants.{Plus, Minus}
-use Rattle.core_rules.specs.IndexRules.{Stretch, Reaches, AreRising, IsForm}
+use Rattle.xanadu_tree.specs.IndexRules.{Stretch, Reaches, AreRising, IsForm}
 use Rattle.xanadu_tree.specs.PlainTree as plain
 use Rattle.scope_shapes.specs.Faults.{◌>>=◌}
 use Rattle.scope_shapes.specs.Linears.{Form, constant_form, with_term, with_constant, is_term, term_of, linear, term_in, terms_in, index_in, row_in, with_row, relation_in, relations_in, signed, within, first_sign, opposite}

@@ -8,10 +8,10 @@ use Rattle.xanadu_tree.specs.declared.types.Kind.TheVariants as kind
 use Rattle.xanadu_tree.specs.declared.types.Packing.{Packing}
 use Rattle.xanadu_tree.specs.declared.types.Quant.{Quant}
 use Rattle.xanadu_tree.specs.declared.tree.index.Binder.{Binder}
-use Rattle.core_rules.specs.IndexRules.{Stretch, IsQuantified, stretch_of}
-use Rattle.core_rules.specs.KindRules.{kind_of, IsValue}
-use Rattle.core_rules.specs.BodyRules.{IsType}
-use Rattle.core_rules.specs.Shaped.{no_index, no_variables}
+use Rattle.xanadu_tree.specs.IndexRules.{Stretch, IsQuantified, stretch_of}
+use Rattle.xanadu_tree.specs.KindRules.{kind_of, IsValue}
+use Rattle.xanadu_tree.specs.BodyRules.{IsType}
+use Rattle.xanadu_tree.specs.Shaped.{no_index, no_variables}
 use Rattle.xanadu_tree.specs.PlainTree as plain
 use Rattle.scope_shapes.specs.declared.error.ShapeKind.TheVariants.{NamedTwice}
 use Rattle.scope_shapes.specs.Faults.{Check, ◌>>=◌}

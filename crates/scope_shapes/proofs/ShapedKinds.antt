@@ -10,10 +10,10 @@ use Rattle.xanadu_tree.specs.declared.types.CoreTy.TheVariants as ty
 use Rattle.xanadu_tree.specs.declared.types.Kind.{Kind}
 use Rattle.xanadu_tree.specs.declared.types.Kind.TheVariants as kind
 use Rattle.xanadu_tree.specs.declared.types.Packing.{Packing}
-use Rattle.core_rules.specs.IndexRules.{Stretch}
-use Rattle.core_rules.specs.KindRules.{kind_of, IsValue, cell_kind, held_kind, first_kind, tuple_type, if_tuple, Setting, HasKind}
-use Rattle.core_rules.specs.BodyRules.{IsType}
-use Rattle.core_rules.specs.Shaped.{IsPacking}
+use Rattle.xanadu_tree.specs.IndexRules.{Stretch}
+use Rattle.xanadu_tree.specs.KindRules.{kind_of, IsValue, cell_kind, held_kind, first_kind, tuple_type, if_tuple, Setting, HasKind}
+use Rattle.xanadu_tree.specs.BodyRules.{IsType}
+use Rattle.xanadu_tree.specs.Shaped.{IsPacking}
 use Rattle.scope_shapes.specs.declared.error.ShapeKind.TheVariants.{OtherKind, Count}
 use Rattle.scope_shapes.specs.Kinds.{same_kind, kind_at, element_kind, parts_of}
 use Rattle.scope_shapes.specs.Sites.{Typed, asked, asked_array, asked_tuple, asked_value, counted}

@@ -4,7 +4,7 @@ use Rattle.std.specs.Prelude.{slice_get, if◌then◌else◌, cond}
 use Rattle.std.specs.Map.{lookup}
 use Rattle.std.specs.List.{AllByRecursion}
 use Rattle.std.proofs.lemmas.Option.{same_Some}
-use Rattle.core_rules.specs.KindRules.{IsAmong}
+use Rattle.xanadu_tree.specs.KindRules.{IsAmong}
 use Rattle.scope_shapes.specs.declared.error.ShapeKind.{ShapeKind}
 use Rattle.scope_shapes.specs.Faults.{Check, fault, ◌>>=◌}
 

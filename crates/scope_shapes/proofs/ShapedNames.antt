@@ -12,10 +12,10 @@ use Rattle.xanadu_tree.specs.declared.types.Kind.{Kind}
 use Rattle.xanadu_tree.specs.declared.types.Kind.TheVariants as kind
 use Rattle.xanadu_tree.specs.declared.types.Packing.{Packing}
 use Rattle.xanadu_tree.specs.declared.tree.declaration.Identifier.{Identifier}
-use Rattle.core_rules.specs.KindRules.{kind_of}
+use Rattle.xanadu_tree.specs.KindRules.{kind_of}
 use Rattle.xanadu_tree.specs.Pieces.{Piece, HaveTexts, kinds}
 use Rattle.xanadu_tree.specs.Spelling.{declaration_pieces, declarations_pieces}
-use Rattle.core_rules.specs.Shaped.{IsArgument}
+use Rattle.xanadu_tree.specs.Shaped.{IsArgument}
 use Rattle.xanadu_tree.specs.Written.{result_at}
 use Rattle.xanadu_tree.specs.PlainTree as plain
 use Rattle.scope_shapes.specs.declared.error.ShapeKind.TheVariants.{NamedTwice, NoMain, MainKind}

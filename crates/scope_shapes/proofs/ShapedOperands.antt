@@ -5,7 +5,7 @@ use Rattle.std.proofs.lemmas.Option.{slice_get-map}
 use Rattle.xanadu_tree.specs.declared.types.CoreTy.{CoreTy}
 use Rattle.xanadu_tree.specs.declared.types.Kind.{Kind}
 use Rattle.xanadu_tree.specs.declared.types.Kind.TheVariants as kind
-use Rattle.core_rules.specs.KindRules.{kind_of, HasKind, AreNumbers, HaveKinds}
+use Rattle.xanadu_tree.specs.KindRules.{kind_of, HasKind, AreNumbers, HaveKinds}
 use Rattle.xanadu_tree.specs.Plain as core
 use Rattle.xanadu_tree.specs.PlainOf.{to_exprs, to_links}
 use Rattle.xanadu_tree.specs.PlainTree as plain

@@ -7,8 +7,8 @@ use Rattle.xanadu_tree.specs.declared.types.Kind.{Kind}
 use Rattle.xanadu_tree.specs.declared.types.Kind.TheVariants as kind
 use Rattle.xanadu_tree.specs.declared.types.Packing.{Packing}
 use Rattle.xanadu_tree.specs.declared.tree.declaration.Identifier.{Identifier}
-use Rattle.core_rules.specs.KindRules.{kind_of, IsValue, IsAmong}
-use Rattle.core_rules.specs.BodyRules.{Point, declaring, behind_block as behind}
+use Rattle.xanadu_tree.specs.KindRules.{kind_of, IsValue, IsAmong}
+use Rattle.xanadu_tree.specs.BodyRules.{Point, declaring, behind_block as behind}
 use Rattle.scope_shapes.specs.declared.error.ShapeKind.TheVariants.{NamedTwice}
 use Rattle.scope_shapes.specs.Kinds.{kind_at}
 use Rattle.scope_shapes.specs.Names.{first}

@@ -10,15 +10,15 @@ use Rattle.xanadu_tree.specs.declared.types.CoreTy.TheVariants as ty
 use Rattle.xanadu_tree.specs.declared.types.Kind.{Kind}
 use Rattle.xanadu_tree.specs.declared.types.Kind.TheVariants as kind
 use Rattle.xanadu_tree.specs.declared.types.Packing.{Packing}
-use Rattle.core_rules.specs.IndexRules.{Stretch, stretch_of}
-use Rattle.core_rules.specs.KindRules.{kind_of, IsValue, IsAmong, result_kind, gives_value, Header as Called, header as core_header}
-use Rattle.core_rules.specs.BodyRules.{IsType, Point, AreStatements, completes_all}
-use Rattle.core_rules.specs.Shaped.{no_index, no_variables, IsFunction, IsNamed, HaveNames, IsArgument, IsMain, Shaped}
+use Rattle.xanadu_tree.specs.IndexRules.{Stretch, stretch_of}
+use Rattle.xanadu_tree.specs.KindRules.{kind_of, IsValue, IsAmong, result_kind, gives_value, Header as Called, header as core_header}
+use Rattle.xanadu_tree.specs.BodyRules.{IsType, Point, AreStatements, completes_all}
+use Rattle.xanadu_tree.specs.Shaped.{no_index, no_variables, IsFunction, IsNamed, HaveNames, IsArgument, IsMain, Shaped}
 use Rattle.xanadu_tree.specs.Plain as core
 use Rattle.xanadu_tree.specs.PlainOf.{to_stmts}
 use Rattle.xanadu_tree.specs.PlainTree as plain
 use Rattle.xanadu_tree.specs.Written.{IsWritten}
-use Rattle.core_rules.proofs.ShapedReturns.{none_give, one_give}
+use Rattle.xanadu_tree.proofs.ShapedReturns.{none_give, one_give}
 use Rattle.scope_shapes.specs.declared.error.ShapeKind.TheVariants.{Completes}
 use Rattle.scope_shapes.specs.Names.{Scope, no_types}
 use Rattle.scope_shapes.specs.Headers.{Header, no_functions, type_names, packings, headers, main_number}

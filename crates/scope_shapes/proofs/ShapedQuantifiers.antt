@@ -22,9 +22,9 @@ use Rattle.xanadu_tree.specs.declared.tree.index.Sort.TheVariants as sort
 use Rattle.xanadu_tree.specs.declared.tree.index.Sign.TheVariants.{Plus}
 use Rattle.xanadu_tree.specs.declared.tree.types.Element.{Element}
 use Rattle.xanadu_tree.specs.declared.tree.types.Element.TheVariants as element
-use Rattle.core_rules.specs.IndexRules.{Stretch, Reaches, IsForm, Tells, SomeTells, variable_form as variable_alone}
-use Rattle.core_rules.specs.KindRules.{cell_kind, tuple_type as tuple_packing}
-use Rattle.core_rules.specs.BodyRules.{IsType}
+use Rattle.xanadu_tree.specs.IndexRules.{Stretch, Reaches, IsForm, Tells, SomeTells, variable_form as variable_alone}
+use Rattle.xanadu_tree.specs.KindRules.{cell_kind, tuple_type as tuple_packing}
+use Rattle.xanadu_tree.specs.BodyRules.{IsType}
 use Rattle.xanadu_tree.specs.PlainTree as plain
 use Rattle.scope_shapes.specs.Faults.{◌>>=◌}
 use Rattle.scope_shapes.specs.Linears.{constant_form, linear, variable_form, lone, index_in, relations_in}

@@ -6,9 +6,9 @@ use Rattle.xanadu_tree.specs.declared.types.CoreTy.{CoreTy}
 use Rattle.xanadu_tree.specs.declared.types.Kind.{Kind}
 use Rattle.xanadu_tree.specs.declared.types.Kind.TheVariants as kind
 use Rattle.xanadu_tree.specs.declared.tree.declaration.Identifier.{Identifier}
-use Rattle.core_rules.specs.IndexRules.{Stretch}
-use Rattle.core_rules.specs.KindRules.{kind_of, IsValue, Setting, HasKind}
-use Rattle.core_rules.specs.BodyRules.{IsType, Point, declaring, completes, IsCall, IsStatement}
+use Rattle.xanadu_tree.specs.IndexRules.{Stretch}
+use Rattle.xanadu_tree.specs.KindRules.{kind_of, IsValue, Setting, HasKind}
+use Rattle.xanadu_tree.specs.BodyRules.{IsType, Point, declaring, completes, IsCall, IsStatement}
 use Rattle.xanadu_tree.specs.Plain as core
 use Rattle.xanadu_tree.specs.PlainTree as plain
 use Rattle.xanadu_tree.specs.Written.{expression_at}

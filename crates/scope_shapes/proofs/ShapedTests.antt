@@ -3,7 +3,7 @@ use Rattle.std.proofs.Common.{◌≡◌, subst, ℕ, Bool, true, false, List, []
 use Rattle.std.specs.Prelude.{cond}
 use Rattle.xanadu_tree.specs.declared.types.Kind.{Kind}
 use Rattle.xanadu_tree.specs.declared.types.Kind.TheVariants as kind
-use Rattle.core_rules.specs.KindRules.{Setting, AreSeveral, IsTest, AreTests}
+use Rattle.xanadu_tree.specs.KindRules.{Setting, AreSeveral, IsTest, AreTests}
 use Rattle.xanadu_tree.specs.Plain as core
 use Rattle.xanadu_tree.specs.PlainOf.{to_tests}
 use Rattle.xanadu_tree.specs.PlainTree as plain

@@ -15,10 +15,10 @@ use Rattle.xanadu_tree.specs.declared.types.Packing.{Packing}
 use Rattle.xanadu_tree.specs.declared.types.Quant.{Quant}
 use Rattle.xanadu_tree.specs.declared.tree.declaration.Identifier.{Identifier}
 use Rattle.xanadu_tree.specs.declared.tree.index.Binder.{Binder}
-use Rattle.core_rules.specs.IndexRules.{Stretch, IsWithin, IsQuantified, SomeTells, stretch_of}
-use Rattle.core_rules.specs.KindRules.{cell_kind, tuple_type as tuple_packing, held_kind, if_tuple, first_kind}
-use Rattle.core_rules.specs.BodyRules.{IsType}
-use Rattle.core_rules.specs.Shaped.{HasParts, IsPacking}
+use Rattle.xanadu_tree.specs.IndexRules.{Stretch, IsWithin, IsQuantified, SomeTells, stretch_of}
+use Rattle.xanadu_tree.specs.KindRules.{cell_kind, tuple_type as tuple_packing, held_kind, if_tuple, first_kind}
+use Rattle.xanadu_tree.specs.BodyRules.{IsType}
+use Rattle.xanadu_tree.specs.Shaped.{HasParts, IsPacking}
 use Rattle.xanadu_tree.specs.PlainTree as plain
 use Rattle.xanadu_tree.specs.Written.{IsTypeBody, IsTypeDeclaration, AreDeclarations, IsSome}
 use Rattle.scope_shapes.specs.Faults.{Check, fault}

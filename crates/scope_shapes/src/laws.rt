@@ -4,7 +4,7 @@ ghost use Rattle.std.specs.Prelude.{◌≡◌, ℕ, Ok};
 ghost use Rattle.scope_shapes.specs.Shape.{shape};
 ghost use Rattle.xanadu_tree.specs.Plain as core;
 ghost use Rattle.xanadu_tree.specs.PlainTree as plain;
-ghost use Rattle.core_rules.specs.Shaped.{Shaped};
+ghost use Rattle.xanadu_tree.specs.Shaped.{Shaped};
 ghost use Rattle.xanadu_tree.specs.Written.{IsWritten};
 
 /// The core of a tree that some source spells keeps the rules of a core.

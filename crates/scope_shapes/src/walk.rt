@@ -3,7 +3,8 @@
 ghost use Rattle.std.specs.Prelude.{◌≡◌, map, IfOk};
 ghost use Rattle.xanadu_tree.specs.PlainOf.{plain_core};
 ghost use Rattle.xanadu_tree.specs.PlainTreeOf.{plain_parameter, plain_result, plain_tree};
-ghost use Rattle.xanadu_tree.specs.Written.{result_at};
+ghost use Rattle.xanadu_tree.specs.Shaped.{Shaped};
+ghost use Rattle.xanadu_tree.specs.Written.{IsWritten, result_at};
 ghost use Rattle.scope_shapes.specs.BodiesOf.{inner_of};
 ghost use Rattle.scope_shapes.specs.Code.{Gives};
 ghost use Rattle.scope_shapes.specs.Headers as headers_spec;
@@ -131,6 +132,7 @@ fn finished(
     bodies: Vec<Inner>,
     main: u32,
 ) -> Result<Core, Memory>
+    requires { Shaped (spec.finished (globals_of program.entry) (map inner_of bodies.items) main) }
     ensures { IfOk result (λ core. plain_core core ≡ spec.finished (globals_of program.entry) (map inner_of bodies.items) main) }
 {
     let Globals {
@@ -142,20 +144,18 @@ fn finished(
         names: _names,
         headers,
     } = functions;
-    Ok(Core {
-        types: Seq::from_vec(packings),
-        funs: Seq::from_vec(funs(alloc, headers, bodies)?),
-        main,
-    })
+    let funs = Seq::from_vec(funs(alloc, headers, bodies)?);
+    Ok(Core::new(Seq::from_vec(packings), funs, main))
 }
 
-/// The core of a tree, or its first fault. `end` is the end of the source, the place of the fault that there is no `main`.
+/// The core of a tree that some source spells, or its first fault. `end` is the end of the source, the place of the fault that there is no `main`.
 ///
 /// The walk goes over the names of types, their bodies, the headers of functions, main, and the bodies of functions. Each part of it is
 /// finished before the next begins, and in each the faults are met from left to right. `Memory` comes where memory ran out, or where a
 /// number of a variable is past 32 bits or a number of a form past 127.
 #[tactic(auto, unfolding(crate::specs::Shape::shape))]
 pub fn resolve(alloc: Global, tree: &Tree, end: u32) -> Result<Core, ShapeError>
+    requires { IsWritten (plain_tree tree.now) }
     ensures { Gives plain_core result (spec.shape (plain_tree tree.now) end) }
 {
     let program = globals(alloc, tree)?;

@@ -10,3 +10,8 @@ pub mod StatementTexts
 pub mod Texts
 pub mod TreeEquations
 pub mod TypeTexts
+pub mod ReadTrees
+pub mod ShapedExamples
+pub mod ShapedFacts
+pub mod ShapedReturns
+pub mod ShapedSums

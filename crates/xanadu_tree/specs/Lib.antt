@@ -9,3 +9,7 @@ pub mod Spelling
 pub mod Written
 pub mod Printing
 pub mod Unplaced
+pub mod BodyRules
+pub mod IndexRules
+pub mod KindRules
+pub mod Shaped

@@ -12,7 +12,7 @@ use Rattle.xanadu_tree.specs.declared.stmt.CoreStmt.{CoreStmt}
 use Rattle.xanadu_tree.specs.declared.stmt.CoreStmt.TheOpen as open_stmt
 use Rattle.xanadu_tree.specs.declared.stmt.CoreStmt.TheFolds.{fold-CoreStmt}
 use Rattle.xanadu_tree.specs.declared.program.CoreFun.{CoreFun}
-use Rattle.xanadu_tree.specs.declared.program.Core.{Core}
+use Rattle.xanadu_tree.specs.declared.types.Packing.{Packing}
 use Rattle.xanadu_tree.specs.Plain as plain
 
 -- the parts of a list, as the tree's own list
@@ -89,5 +89,11 @@ plain_fun f = record {
   at = f.at;
 }
 
-abbrev pub plain_core : Core → plain.Program
+-- the parts of a core
+pub record CoreParts : Type 0 where
+  pub types : List Packing
+  pub funs : List CoreFun
+  pub main : ℕ
+
+abbrev pub plain_core : CoreParts → plain.Program
 plain_core core = record { types = core.types; funs = map plain_fun core.funs; main = core.main }

@@ -1,6 +1,6 @@
 //! What printing and reading are to each other, as laws that functions without code carry.
 
-ghost use Rattle.std.specs.Prelude.{◌≡◌, Ok};
+ghost use Rattle.std.specs.Prelude.{◌≡◌, ℕ, List, Ok};
 ghost use Rattle.xanadu_lexer.specs.Lexing.{lexed};
 ghost use Rattle.xanadu_tree.specs.Pieces.{kinds, tokens_from};
 ghost use Rattle.xanadu_tree.specs.PlainTree as plain;
@@ -22,4 +22,9 @@ pub fn printed_is_read_again()
 /// Each tree that the text is read as has the same tokens, up to their places.
 pub fn readings_are_alike()
     ensures { (tree other : plain.Tree) → IsWritten tree → Reads (printed tree) other → kinds (pieces other) ≡ kinds (pieces tree) }
+{}
+
+/// A tree that a text is read as is one that some source spells: its names and numbers are those of tokens.
+pub fn read_trees_are_written()
+    ensures { (bytes : List ℕ) (tree : plain.Tree) → Reads bytes tree → IsWritten tree }
 {}

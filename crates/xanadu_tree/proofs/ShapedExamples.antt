@@ -7,12 +7,12 @@ use Rattle.xanadu_tree.specs.declared.types.CoreTy.{CoreTy}
 use Rattle.xanadu_tree.specs.declared.types.CoreTy.TheVariants as ty
 use Rattle.xanadu_tree.specs.declared.types.Kind.{Kind}
 use Rattle.xanadu_tree.specs.declared.types.Kind.TheVariants as kind
-use Rattle.core_rules.specs.KindRules.{HasKind}
-use Rattle.core_rules.specs.BodyRules.{AreStatements}
-use Rattle.core_rules.specs.Shaped.{Shaped}
+use Rattle.xanadu_tree.specs.KindRules.{HasKind}
+use Rattle.xanadu_tree.specs.BodyRules.{AreStatements}
+use Rattle.xanadu_tree.specs.Shaped.{Shaped}
 use Rattle.xanadu_tree.specs.Small.{number_program, number_function, free, int_of}
 use Rattle.xanadu_tree.specs.Plain as plain
-use Rattle.core_rules.proofs.ShapedSums.{sum_is_shaped}
+use Rattle.xanadu_tree.proofs.ShapedSums.{sum_is_shaped}
 
 -- `return a + 3;` of two numbers
 sum_example : Shaped (number_program 2 (plain.Chain (plain.Var 0) (plain.ALink op.Add (plain.Int (pos 3)) 25 plain.NoLink)) 20 0)

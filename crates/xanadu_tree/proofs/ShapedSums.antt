@@ -12,10 +12,10 @@ use Rattle.xanadu_lexer.specs.Spelling.{keyword_text}
 use Rattle.xanadu_tree.specs.declared.types.CoreTy.{CoreTy}
 use Rattle.xanadu_tree.specs.declared.types.Kind.{Kind}
 use Rattle.xanadu_tree.specs.declared.types.Kind.TheVariants as kind
-use Rattle.core_rules.specs.IndexRules.{SomeTells, variable_form}
-use Rattle.core_rules.specs.KindRules.{kind_of, header, Setting, IsAmong, HasKind, AreNumbers}
-use Rattle.core_rules.specs.BodyRules.{AreStatements, IsType}
-use Rattle.core_rules.specs.Shaped.{IsArgument, IsFunction, IsMain, Shaped, setting, body_start}
+use Rattle.xanadu_tree.specs.IndexRules.{SomeTells, variable_form}
+use Rattle.xanadu_tree.specs.KindRules.{kind_of, header, Setting, IsAmong, HasKind, AreNumbers}
+use Rattle.xanadu_tree.specs.BodyRules.{AreStatements, IsType}
+use Rattle.xanadu_tree.specs.Shaped.{IsArgument, IsFunction, IsMain, Shaped, setting, body_start}
 use Rattle.xanadu_tree.specs.Small.{int_of, number_function, number_program, IsOperand, AreSumLinks, IsSum}
 use Rattle.xanadu_tree.specs.Plain as plain
 

@@ -12,9 +12,9 @@ use Rattle.xanadu_tree.specs.declared.types.Kind.{Kind}
 use Rattle.xanadu_tree.specs.declared.types.Kind.TheVariants as kind
 use Rattle.xanadu_tree.specs.declared.types.Packing.{Packing}
 use Rattle.xanadu_tree.specs.declared.types.Quant.{Quant}
-use Rattle.core_rules.specs.BodyRules.{IsType, Point, AreStatements, completes_all}
-use Rattle.core_rules.specs.IndexRules.{Stretch, IsQuantified, stretch_of}
-use Rattle.core_rules.specs.KindRules.{kind_of, result_kind, header, Header, Setting}
+use Rattle.xanadu_tree.specs.BodyRules.{IsType, Point, AreStatements, completes_all}
+use Rattle.xanadu_tree.specs.IndexRules.{Stretch, IsQuantified, stretch_of}
+use Rattle.xanadu_tree.specs.KindRules.{kind_of, result_kind, header, Header, Setting}
 use Rattle.xanadu_tree.specs.Plain as plain
 
 -- ---- declared types

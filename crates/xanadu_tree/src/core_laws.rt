@@ -1,9 +1,9 @@
 //! What the rules of a core mean, as laws that functions without code carry.
 
 ghost use Rattle.std.specs.Prelude.{◌≡◌, ℕ, List};
-ghost use Rattle.core_rules.specs.BodyRules.{Point, AreStatements, AreNumbered, all_indices};
-ghost use Rattle.core_rules.specs.KindRules.{Setting, HasKind};
-ghost use Rattle.core_rules.specs.Shaped.{Shaped};
+ghost use Rattle.xanadu_tree.specs.BodyRules.{Point, AreStatements, AreNumbered, all_indices};
+ghost use Rattle.xanadu_tree.specs.KindRules.{Setting, HasKind};
+ghost use Rattle.xanadu_tree.specs.Shaped.{Shaped};
 ghost use Rattle.xanadu_tree.specs.declared.types.Kind.{Kind};
 ghost use Rattle.xanadu_tree.specs.Plain as core;
 ghost use Rattle.xanadu_tree.specs.Small.{IsSum, number_program};

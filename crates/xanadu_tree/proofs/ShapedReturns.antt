@@ -3,8 +3,8 @@ use Rattle.std.proofs.Common.{◌≡◌, Bool, true, false, Some, None, refl}
 use Rattle.std.specs.Prelude.{◌||◌}
 use Rattle.xanadu_tree.specs.declared.types.Kind.{Kind}
 use Rattle.xanadu_tree.specs.declared.types.Kind.TheVariants as kind
-use Rattle.core_rules.specs.BodyRules.{Point, behind_block, IsStatement, AreStatements, completes, completes_all}
-use Rattle.core_rules.specs.KindRules.{Setting, IsValue, statement_gives, gives_value}
+use Rattle.xanadu_tree.specs.BodyRules.{Point, behind_block, IsStatement, AreStatements, completes, completes_all}
+use Rattle.xanadu_tree.specs.KindRules.{Setting, IsValue, statement_gives, gives_value}
 use Rattle.xanadu_tree.specs.Plain as plain
 
 neither : (a b : Bool) → a ≡ false → b ≡ false → (a || b) ≡ false

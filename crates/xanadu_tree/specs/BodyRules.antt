@@ -7,8 +7,8 @@ use Rattle.xanadu_tree.specs.declared.types.CoreTy.TheVariants as ty
 use Rattle.xanadu_tree.specs.declared.types.Kind.{Kind}
 use Rattle.xanadu_tree.specs.declared.types.Kind.TheVariants as kind
 use Rattle.xanadu_tree.specs.declared.types.Packing.{Packing}
-use Rattle.core_rules.specs.IndexRules.{Stretch, IsForm, IsQuantified, stretch_of}
-use Rattle.core_rules.specs.KindRules.{kind_of, IsValue, cell_kind, tuple_type, Setting, IsAmong, HasKind, IsTest}
+use Rattle.xanadu_tree.specs.IndexRules.{Stretch, IsForm, IsQuantified, stretch_of}
+use Rattle.xanadu_tree.specs.KindRules.{kind_of, IsValue, cell_kind, tuple_type, Setting, IsAmong, HasKind, IsTest}
 use Rattle.xanadu_tree.specs.Plain as plain
 
 -- ---- types

@@ -5,8 +5,8 @@ use Rattle.std.proofs.lemmas.Option.{same_Some}
 use Rattle.xanadu_tree.specs.declared.stmt.Clause.{Clause}
 use Rattle.xanadu_tree.specs.declared.types.Kind.{Kind}
 use Rattle.xanadu_tree.specs.declared.types.Kind.TheVariants as kind
-use Rattle.core_rules.specs.KindRules.{Setting, cell_kind, HasKind}
-use Rattle.core_rules.specs.BodyRules.{Point, behind_block, IsClauseIfAny, IsStatement, AreStatements, AreNumbered, clause_indices, statement_indices, all_indices}
+use Rattle.xanadu_tree.specs.KindRules.{Setting, cell_kind, HasKind}
+use Rattle.xanadu_tree.specs.BodyRules.{Point, behind_block, IsClauseIfAny, IsStatement, AreStatements, AreNumbered, clause_indices, statement_indices, all_indices}
 use Rattle.xanadu_tree.specs.Plain as plain
 
 -- ---- an expression has one kind

@@ -1,4 +1,0 @@
-pub mod ShapedExamples
-pub mod ShapedFacts
-pub mod ShapedReturns
-pub mod ShapedSums

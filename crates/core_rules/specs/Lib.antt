@@ -1,4 +1,0 @@
-pub mod BodyRules
-pub mod IndexRules
-pub mod KindRules
-pub mod Shaped
