@@ -291,15 +291,21 @@ program_is g bs number p m zip =
       main = main_function_is g m.header at.inner number (all_at (IsHeader g.packings) g.functions.headers number m.header p.table.headers m.at) at.body m.name m.params m.result;
     }
 
+-- what the walk finishes with
+pub finished_is_shaped : (tree : plain.Tree) (end : ℕ) (g : Globals) (number : ℕ) (bs : List Inner) → IsWritten tree → globals tree ≡ Ok g
+    → main_number g.functions end ≡ Ok number → inners g g.functions.headers [] ≡ Ok bs → Shaped (finished g bs number)
+finished_is_shaped tree end g number bs written declared main bodies =
+    let p = globals_are tree g written declared in
+    let z = inners_are g g.functions.headers [] bs bodies in
+    let zip = subst (AllZip (InnerOf g) g.functions.headers) (sym z.is) z.zip in
+    subst (λ fs. Shaped (record { types = g.packings; funs = fs; main = number })) (sym (funs_are g.functions.headers bs))
+    (program_is g bs number p (main_is g.packings g.functions end number p.table main) zip)
+
 pub shape_is_shaped : (tree : plain.Tree) (end : ℕ) (y : core.Program) → IsWritten tree → shape tree end ≡ Ok y → Shaped y
 unfolding shape
 shape_is_shaped tree end y written e =
     let g = then_ok (globals tree) _ y e in
     let m = then_ok (main_number g.value.functions end) _ y g.second in
     let b = then_ok (inners g.value g.value.functions.headers []) _ y m.second in
-    let p = globals_are tree g.value written g.first in
-    let z = inners_are g.value g.value.functions.headers [] b.value b.first in
-    let zip = subst (AllZip (InnerOf g.value) g.value.functions.headers) (sym z.is) z.zip in
     subst Shaped (ok_same (finished g.value b.value m.value) y b.second)
-    (subst (λ fs. Shaped (record { types = g.value.packings; funs = fs; main = m.value })) (sym (funs_are g.value.functions.headers b.value))
-    (program_is g.value b.value m.value p (main_is g.value.packings g.value.functions end m.value p.table m.first) zip))
+    (finished_is_shaped tree end g.value m.value b.value written g.first m.first b.first)

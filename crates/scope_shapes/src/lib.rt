@@ -28,6 +28,3 @@ mod walk;
 pub use error::{ShapeError, ShapeKind};
 pub use laws::shapes_are_shaped;
 pub use walk::resolve;
-
-#[cfg(test)]
-mod tests;

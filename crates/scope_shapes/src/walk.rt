@@ -132,7 +132,7 @@ fn finished(
     bodies: Vec<Inner>,
     main: u32,
 ) -> Result<Core, Memory>
-    requires { Shaped (spec.finished (globals_of program.entry) (map inner_of bodies.items) main) }
+    requires { Shaped (spec.finished (globals_of program) (map inner_of bodies.items) main) }
     ensures { IfOk result (λ core. plain_core core ≡ spec.finished (globals_of program.entry) (map inner_of bodies.items) main) }
 {
     let Globals {

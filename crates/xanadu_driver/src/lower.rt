@@ -29,7 +29,7 @@ pub fn lower(alloc: Global, core: &Core) -> Result<Straight, Memory>
     requires { IsSmall (plain_core core.now) }
     ensures { IfOk result (λ program. (small : IsSmall (plain_core core.now)) → program ≡ spec.straight_of small.count small.value) }
 {
-    let fun = &core.funs.as_slice()[0];
+    let fun = &core.funs()[0];
     let Some(value) = returned(fun.body.as_slice()) else {
         unreachable!()
     };

@@ -28,7 +28,7 @@ pub fn is_small(core: &Core) -> bool
 fn passes(core: &Core) -> bool
     ensures { result ≡ spec.is_small (plain_core core.now) }
 {
-    core.types.as_slice().len() == 0 && core.main == 0 && is_small_alone(core.funs.as_slice())
+    core.types().len() == 0 && core.main() == 0 && is_small_alone(core.funs())
 }
 
 #[tactic(auto, using(crate::proofs::SmallCores::lone))]

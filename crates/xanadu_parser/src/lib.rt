@@ -20,6 +20,3 @@ mod types;
 pub use error::ParseError;
 pub use laws::tokens_spell_one_tree;
 pub use parser::parse;
-
-#[cfg(test)]
-mod tests;

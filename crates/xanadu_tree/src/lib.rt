@@ -31,6 +31,3 @@ pub use tree::{
     TypeDeclaration, Unary, WrittenClause,
 };
 pub use types::{CoreTy, Kind, Packing, Quant};
-
-#[cfg(test)]
-mod tests;

@@ -1,23 +1,21 @@
-use crate::{ParseError, parse};
+//! Which sources have a tree, and where the others have their fault.
+
+use crate::tests::answer;
 use std::alloc::Global;
 use std::test::Fail;
-use xanadu_lexer::lex;
+use xanadu_parser::ParseError;
 
-/// What `parse` answers for the tokens of a source. `None` where the source has no tokens.
-fn answer(alloc: Global, source: &[u8]) -> Option<Result<(), ParseError>> {
-    if source.len() > 0xffff_ffff {
-        return None;
-    }
-    let tokens = lex(alloc, source).ok()?;
-    Some(parse(alloc, tokens.as_slice(), source.len() as u32).map(|_| ()))
+/// What comes of a source, without its tree.
+fn end(alloc: Global, source: &[u8]) -> Option<Result<(), ParseError>> {
+    Some(answer(alloc, source)?.map(|_tree| ()))
 }
 
 fn has_tree(alloc: Global, source: &[u8]) -> bool {
-    answer(alloc, source) == Some(Ok(()))
+    end(alloc, source) == Some(Ok(()))
 }
 
 fn faults_at(alloc: Global, source: &[u8], at: u32) -> bool {
-    answer(alloc, source) == Some(Err(ParseError::Fault { at }))
+    end(alloc, source) == Some(Err(ParseError::Fault { at }))
 }
 
 /// A source with `text` in the place of a statement.
@@ -164,7 +162,7 @@ fn nested_answer(
     close: &[u8],
     count: u32,
 ) -> Option<Result<(), ParseError>> {
-    answer(alloc, &nested(alloc, open, close, count)?)
+    end(alloc, &nested(alloc, open, close, count)?)
 }
 
 /// What is put so often into a statement, and closed as often, and the answer.
