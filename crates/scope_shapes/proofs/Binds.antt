@@ -1,5 +1,5 @@
 -- Parts of a walk in turn: what follows from the answer of the first.
-use Rattle.std.proofs.Common.{◌≡◌, ◌∙◌, Result, Ok, Err, refl, ap}
+use Rattle.std.proofs.Common.{◌≡◌, Ok, Err, ap}
 use Rattle.scope_shapes.specs.declared.error.ShapeError.{ShapeError}
 use Rattle.scope_shapes.specs.declared.error.ShapeError.TheVariants as shape_error
 use Rattle.scope_shapes.specs.Code.{Fails}

@@ -1,5 +1,5 @@
 -- A list of parts that is not empty has a part in front.
-use Rattle.std.proofs.Common.{◌≡◌, ℕ, ◌<◌, true, List, [], ◌∷◌, length, refl, ap, ◌+◌, arith}
+use Rattle.std.proofs.Common.{◌≡◌, ℕ, ◌<◌, true, List, [], ◌∷◌, length, refl, arith}
 use Rattle.xanadu_tree.specs.declared.expr.Op.{Op}
 use Rattle.xanadu_tree.specs.declared.tree.expression.Conjunction.{Conjunction}
 use Rattle.xanadu_tree.specs.declared.tree.expression.Expression.{Expression}

@@ -1,7 +1,7 @@
 -- Scopes as code keeps them: an index of what each name means now, and declarations with what their names meant before.
-use Rattle.std.proofs.Common.{◌≡◌, ◌∙◌, ℕ, Bool, true, false, cond, List, [], ◌∷◌, ◌++◌, reverse, map, length, Option, Some, None, refl, sym, ap, subst}
+use Rattle.std.proofs.Common.{◌≡◌, ◌∙◌, ℕ, Bool, true, false, cond, List, [], ◌∷◌, ◌++◌, reverse, Option, Some, None, refl, sym, ap, subst}
 use Rattle.std.specs.Prelude.{bytes_eq}
-use Rattle.std.specs.Bool.{Decides, one_answer}
+use Rattle.std.specs.Bool.{one_answer}
 use Rattle.std.specs.Borrow.{Bor}
 use Rattle.std.specs.HashMap.{HashMap, UpdatesBy}
 use Rattle.std.specs.Map.{lookup}
@@ -10,7 +10,7 @@ use Rattle.std.proofs.lemmas.Map.Text.{hash_map_updates_str}
 use Rattle.std.proofs.lemmas.Slice.Eq.{bytes_eq-Decides}
 use Rattle.scope_shapes.specs.declared.scope.Declared.{Declared}
 use Rattle.scope_shapes.specs.Names.{Scope, meaning}
-use Rattle.scope_shapes.specs.ScopeOf.{entry_of, seen, or_nothing, current, KeepBefore, IsKept}
+use Rattle.scope_shapes.specs.ScopeOf.{seen, or_nothing, current, IsKept}
 
 -- ---- names
 

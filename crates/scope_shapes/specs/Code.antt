@@ -2,7 +2,7 @@
 use Rattle.std.specs.Prelude.{◌≡◌, Result, Ok, Err}
 use Rattle.scope_shapes.specs.declared.error.ShapeError.{ShapeError}
 use Rattle.scope_shapes.specs.declared.error.ShapeError.TheVariants as shape_error
-use Rattle.scope_shapes.specs.Faults.{Check, Fault}
+use Rattle.scope_shapes.specs.Faults.{Check}
 
 abbrev pub Fails : {Y : Type 0} → ShapeError → Check Y → Type 0
 Fails (shape_error.Fault at kind) wanted = wanted ≡ Err (record { at = at; kind = kind })

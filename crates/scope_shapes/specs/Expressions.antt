@@ -8,7 +8,7 @@ use Rattle.xanadu_tree.specs.declared.types.Kind.TheVariants as kind
 use Rattle.xanadu_tree.specs.Plain as core
 use Rattle.xanadu_tree.specs.PlainOf.{to_exprs, to_links, to_tests}
 use Rattle.xanadu_tree.specs.PlainTree as plain
-use Rattle.xanadu_tree.specs.Written.{primary_at, postfix_at, unary_at, product_at, sum_at, comparison_at, expression_at}
+use Rattle.xanadu_tree.specs.Written.{primary_at, postfix_at, unary_at, product_at, sum_at, expression_at}
 use Rattle.scope_shapes.specs.declared.error.ShapeKind.TheVariants.{OutsideTest}
 use Rattle.scope_shapes.specs.Faults.{Check, fault, ◌>>=◌}
 use Rattle.scope_shapes.specs.Kinds.{kind_at, element_kind, parts_of}

@@ -1,6 +1,5 @@
 -- Names of types and their bodies, headers of functions, and `main`.
-use Rattle.std.specs.Prelude.{ℕ, pos, ◌+◌, Bool as Truth, true, false, List, [], ◌∷◌, ◌++◌, codes, length, map, Option, Some, None, Ok, is_some, slice_get, nat_eq, if◌then◌else◌}
-use Rattle.xanadu_tree.specs.declared.linear.Linear.{Linear}
+use Rattle.std.specs.Prelude.{ℕ, pos, Bool as Truth, true, false, List, [], ◌∷◌, ◌++◌, codes, length, Option, Some, None, Ok, is_some, slice_get, nat_eq, if◌then◌else◌}
 use Rattle.xanadu_tree.specs.declared.types.CoreTy.{CoreTy}
 use Rattle.xanadu_tree.specs.declared.types.CoreTy.TheVariants as ty
 use Rattle.xanadu_tree.specs.declared.types.Kind.{Kind}
@@ -12,7 +11,6 @@ use Rattle.xanadu_tree.specs.Written.{result_at}
 use Rattle.scope_shapes.specs.declared.error.ShapeKind.TheVariants.{NamedTwice, NoMain, MainKind}
 use Rattle.scope_shapes.specs.Faults.{Check, fault, ◌>>=◌}
 use Rattle.scope_shapes.specs.Kinds.{kind_of}
-use Rattle.scope_shapes.specs.Linears.{constant_form, linear}
 use Rattle.scope_shapes.specs.Names.{Scope, Table, meaning, place, added, Types}
 use Rattle.scope_shapes.specs.Quantifiers.{Frame, opened, closed, type_in, types_in}
 

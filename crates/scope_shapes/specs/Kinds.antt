@@ -1,5 +1,5 @@
 -- Simple kinds: of a type, of a cell, of a part.
-use Rattle.std.specs.Prelude.{ℕ, ◌-◌, Bool as Truth, true, false, List, [], ◌∷◌, Option, Some, None, nat_eq, slice_get, if◌then◌else◌}
+use Rattle.std.specs.Prelude.{ℕ, ◌-◌, Bool as Truth, true, false, List, [], Option, Some, None, nat_eq, slice_get, if◌then◌else◌}
 use Rattle.xanadu_tree.specs.declared.types.CoreTy.{CoreTy}
 use Rattle.xanadu_tree.specs.declared.types.CoreTy.TheVariants as ty
 use Rattle.xanadu_tree.specs.declared.types.Kind.{Kind}

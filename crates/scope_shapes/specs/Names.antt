@@ -1,5 +1,5 @@
 -- Names and what they name.
-use Rattle.std.specs.Prelude.{ℕ, ◌+◌, ◌-◌, Bool as Truth, true, false, List, [], ◌∷◌, ◌++◌, length, drop, unwrap_or, slice_get, position, bytes_eq, Option, Some, None, Ok, if◌then◌else◌}
+use Rattle.std.specs.Prelude.{ℕ, ◌+◌, ◌-◌, Bool as Truth, false, List, [], ◌∷◌, ◌++◌, length, drop, unwrap_or, slice_get, position, bytes_eq, Option, Some, None, Ok, if◌then◌else◌}
 use Rattle.std.specs.List.{list_any}
 use Rattle.std.specs.Map.{lookup}
 use Rattle.xanadu_tree.specs.declared.tree.declaration.Identifier.{Identifier}

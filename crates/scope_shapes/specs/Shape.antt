@@ -1,15 +1,15 @@
 -- The core of a source's tree, or its first fault.
 --
 -- The walk: names of types; bodies of types; headers of functions; main; bodies of functions. Each part is finished before the next begins.
-use Rattle.std.specs.Prelude.{ℕ, ◌+◌, Bool as Truth, List, [], ◌∷◌, ◌++◌, map, zip, Option, Some, None, Ok, if◌then◌else◌}
+use Rattle.std.specs.Prelude.{ℕ, ◌+◌, List, [], ◌∷◌, ◌++◌, map, zip, Option, Some, None, Ok, if◌then◌else◌}
 use Rattle.xanadu_tree.specs.declared.tree.index.Binder.{Binder}
 use Rattle.xanadu_tree.specs.declared.types.Kind.{Kind}
 use Rattle.xanadu_tree.specs.Plain as core
 use Rattle.xanadu_tree.specs.PlainOf.{to_stmts}
 use Rattle.xanadu_tree.specs.PlainTree as plain
 use Rattle.scope_shapes.specs.declared.error.ShapeKind.TheVariants.{Completes}
-use Rattle.scope_shapes.specs.Faults.{Fault, Check, fault, ◌>>=◌}
-use Rattle.scope_shapes.specs.Headers.{Header, Functions, no_functions, type_names, packings, headers, main_number}
+use Rattle.scope_shapes.specs.Faults.{Check, fault, ◌>>=◌}
+use Rattle.scope_shapes.specs.Headers.{Header, no_functions, type_names, packings, headers, main_number}
 use Rattle.scope_shapes.specs.Kinds.{kind_of}
 use Rattle.scope_shapes.specs.Names.{Scope, no_types}
 use Rattle.scope_shapes.specs.Sites.{Globals, Locals}

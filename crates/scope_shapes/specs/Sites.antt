@@ -1,17 +1,14 @@
 -- Where a statement or an expression stands: what is declared in the program, and what is visible in the function.
-use Rattle.std.specs.Prelude.{ℕ, ◌+◌, Bool as Truth, List, [], ◌∷◌, ◌++◌, length, map, Option, Some, None, Ok, is_some, unwrap_or, nat_eq, slice_get, if◌then◌else◌}
+use Rattle.std.specs.Prelude.{ℕ, List, [], ◌∷◌, ◌++◌, length, Option, Some, None, Ok, is_some, unwrap_or, nat_eq, slice_get, if◌then◌else◌}
 use Rattle.xanadu_tree.specs.declared.tree.declaration.Identifier.{Identifier}
-use Rattle.xanadu_tree.specs.declared.tree.index.Binder.{Binder}
-use Rattle.xanadu_tree.specs.declared.types.CoreTy.{CoreTy}
 use Rattle.xanadu_tree.specs.declared.types.Kind.{Kind}
 use Rattle.xanadu_tree.specs.declared.types.Kind.TheVariants as kind
 use Rattle.xanadu_tree.specs.declared.types.Packing.{Packing}
 use Rattle.xanadu_tree.specs.Plain as core
-use Rattle.xanadu_tree.specs.PlainTree as plain
 use Rattle.scope_shapes.specs.declared.error.ShapeKind.TheVariants.{NamedTwice, OtherKind, Count}
 use Rattle.scope_shapes.specs.Faults.{Check, fault, ◌>>=◌}
 use Rattle.scope_shapes.specs.Headers.{Header, Functions}
-use Rattle.scope_shapes.specs.Kinds.{kind_of, same_kind, parts_of}
+use Rattle.scope_shapes.specs.Kinds.{same_kind, parts_of}
 use Rattle.scope_shapes.specs.Names.{Scope, meaning, first, place, or_unknown, Types, tuple_type}
 
 -- ---- the program

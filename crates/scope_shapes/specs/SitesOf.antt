@@ -1,8 +1,7 @@
 -- How a site is seen, and what is made there.
-use Rattle.std.specs.Prelude.{ℕ, List, map}
+use Rattle.std.specs.Prelude.{ℕ, map}
 use Rattle.xanadu_tree.specs.declared.expr.CoreExpr.{CoreExpr}
 use Rattle.xanadu_tree.specs.declared.expr.Op.{Op}
-use Rattle.xanadu_tree.specs.Plain as core
 use Rattle.xanadu_tree.specs.PlainOf.{plain_expr, plain_stmt}
 use Rattle.scope_shapes.specs.declared.simple.Done as code_done
 use Rattle.scope_shapes.specs.declared.simple.Body as code_body

@@ -1,5 +1,5 @@
 -- Clauses, statements and blocks.
-use Rattle.std.specs.Prelude.{ℕ, ◌+◌, Bool as Truth, true, false, ◌||◌, List, [], ◌∷◌, ◌++◌, length, map, Option, Some, None, Ok, is_some, nat_eq, if◌then◌else◌}
+use Rattle.std.specs.Prelude.{ℕ, Bool as Truth, true, false, ◌||◌, List, [], ◌∷◌, ◌++◌, length, Option, Some, None, Ok, is_some, if◌then◌else◌}
 use Rattle.std.specs.BTreeSet.{insert_key}
 use Rattle.std.specs.Ordering.{nat_cmp}
 use Rattle.xanadu_tree.specs.declared.stmt.Clause.{Clause}
@@ -11,13 +11,13 @@ use Rattle.xanadu_tree.specs.Plain as core
 use Rattle.xanadu_tree.specs.PlainOf.{to_stmts}
 use Rattle.xanadu_tree.specs.PlainTree as plain
 use Rattle.xanadu_tree.specs.Written.{expression_at, type_at}
-use Rattle.scope_shapes.specs.declared.error.ShapeKind.TheVariants.{NamedTwice, OtherKind, Count, Unreachable}
+use Rattle.scope_shapes.specs.declared.error.ShapeKind.TheVariants.{NamedTwice, OtherKind, Unreachable}
 use Rattle.scope_shapes.specs.Expressions.{expression, indexed, primary, test}
 use Rattle.scope_shapes.specs.Faults.{Check, fault, ◌>>=◌}
 use Rattle.scope_shapes.specs.Kinds.{kind_of, same_kind, kind_at, parts_of}
 use Rattle.scope_shapes.specs.Names.{meaning, or_unknown, Types}
 use Rattle.scope_shapes.specs.Quantifiers.{Frame, opened, closed, type_in, is_index}
-use Rattle.scope_shapes.specs.Sites.{Globals, Locals, Typed, variable, variable_kind, declared, new_variable, behind_block, asked, asked_tuple, asked_value, counted}
+use Rattle.scope_shapes.specs.Sites.{Globals, Locals, variable, variable_kind, declared, new_variable, behind_block, asked, asked_tuple, asked_value, counted}
 
 -- ---- clauses
 

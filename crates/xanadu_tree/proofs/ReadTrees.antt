@@ -1,12 +1,11 @@
 -- A tree that a text is read as is one that some source spells.
-use Rattle.std.proofs.Common.{◌≡◌, sym, ap, subst, ℕ, zero, suc, ◌+◌, List, [], ◌∷◌, ◌++◌, length, map, Ok, Err, refl}
+use Rattle.std.proofs.Common.{◌≡◌, sym, subst, ℕ, ◌+◌, List, [], ◌∷◌, length, map, Ok, Err, refl}
 use Rattle.std.specs.Prelude.{Result, IfOk}
 use Rattle.xanadu_lexer.specs.declared.error.LexError.{LexError}
 use Rattle.xanadu_lexer.specs.declared.token.Token.{Token}
 use Rattle.xanadu_lexer.specs.declared.token.TokenKind.{TokenKind}
 use Rattle.xanadu_lexer.specs.Rules.{IsToken, with_token, Lexes, Ended, AfterGap, AfterToken, BadNumber, BadByte}
 use Rattle.xanadu_lexer.specs.Lexing.{lexed}
-use Rattle.xanadu_lexer.specs.Spelling.{spelled}
 use Rattle.xanadu_lexer.proofs.ByRules.{lexed_by_rules}
 use Rattle.xanadu_lexer.proofs.Spelled.{token-spelled}
 use Rattle.xanadu_tree.specs.Pieces.{Piece, kinds, Spelled, HasText, HaveTexts}

@@ -17,9 +17,7 @@ mod types;
 
 pub use core_laws::{clauses_are_numbered, kinds_are_unique, sums_are_shaped};
 pub use expr::{CoreExpr, Op, Rel};
-pub use laws::{
-    printed_is_read_again, printed_tokens, read_trees_are_written, readings_are_alike,
-};
+pub use laws::{printed_is_read_again, printed_tokens, read_trees_are_written, readings_are_alike};
 pub use linear::Linear;
 pub use print::print_tree;
 pub use program::{Core, CoreFun};

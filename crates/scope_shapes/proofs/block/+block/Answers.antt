@@ -1,7 +1,6 @@
 use Rattle.std.proofs.Common.{◌≡◌, ◌∙◌, Ok, sym, ap, subst, rules}
 use Rattle.std.specs.Option.{option_map}
 use Rattle.xanadu_tree.specs.declared.stmt.Clause.{Clause}
-use Rattle.xanadu_tree.specs.Plain as core
 use Rattle.xanadu_tree.specs.PlainOf.{plain_test}
 use Rattle.xanadu_tree.specs.PlainTreeOf.{plain_block, plain_clause, plain_expression, plain_statement, to_branch}
 use Rattle.xanadu_tree.proofs.TreeEquations.{plain_statement-If}
