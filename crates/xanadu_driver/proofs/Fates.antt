@@ -12,13 +12,19 @@ use Rattle.xanadu_tree.specs.Nesting.{IsTooNested}
 use Rattle.xanadu_tree.specs.Plain as plain
 use Rattle.xanadu_tree.specs.PlainTree as tree
 use Rattle.xanadu_tree.specs.Small.{IsSmall}
-use Rattle.xanadu_tree.specs.Written.{Parses}
+use Rattle.xanadu_tree.specs.Written.{IsWritten, Parses}
+use Rattle.xanadu_tree.proofs.ReadTrees.{read_is_written}
 use Rattle.scope_shapes.specs.declared.error.ShapeKind.{ShapeKind}
 use Rattle.scope_shapes.specs.Faults.{Fault}
 use Rattle.scope_shapes.specs.Shape.{shape}
 use Rattle.xanadu_driver.specs.declared.refusal.Refusal.{Refusal}
 use Rattle.xanadu_driver.specs.declared.refusal.Refusal.TheVariants as refusal
 use Rattle.xanadu_driver.specs.Source.{source_most, HasTokens, HasTree, IsCore, IsBytesFault, IsNestedSource, IsParseFault, IsShapeFault, IsRefused}
+
+-- ---- trees
+
+pub tree_is_written : (bytes : List ℕ) (written : tree.Tree) → HasTree bytes written → IsWritten written
+tree_is_written bytes written has = read_is_written bytes written (record { tokens = has.tokens; lexed = has.has.lexed; parsed = has.parses })
 
 -- ---- tokens
 

@@ -4,7 +4,6 @@ ghost use Rattle.std.specs.Prelude.{◌≡◌, ◌≤◌, length, IfOk, IfErr};
 ghost use Rattle.xanadu_tree.specs.PlainOf.{plain_core};
 ghost use Rattle.xanadu_tree.specs.PlainTreeOf.{plain_tree};
 ghost use Rattle.xanadu_tree.specs.Small.{IsSmall};
-ghost use Rattle.xanadu_tree.specs.Written.{IsWritten};
 ghost use Rattle.xanadu_driver.specs.declared.source.SourceError.TheVariants.{Memory as memory};
 ghost use Rattle.xanadu_driver.specs.Source.{HasTokens, HasTree, IsCore, Stops};
 
@@ -16,7 +15,7 @@ use xan_io::Memory;
 use xan_seq::Seq;
 use xanadu_lexer::{LexError, Token, lex};
 use xanadu_parser::{ParseError, parse};
-use xanadu_tree::{Core, Tree, read_trees_are_written};
+use xanadu_tree::{Core, Tree};
 
 /// Why nothing came of a source.
 #[derive(Clone, Copy, Debug, PartialEq, Eq)]
@@ -50,6 +49,7 @@ pub fn small_core(alloc: Global, source: &[u8]) -> Result<Core, SourceError>
 }
 
 /// The core of a source, where it has one.
+#[tactic(auto, using(crate::proofs::Fates::tree_is_written))]
 fn core_of(alloc: Global, source: &[u8]) -> Result<Core, SourceError>
     requires { length source.now ≤ 1048576 }
     ensures core { IfOk result (λ core. IsCore source.now (plain_core core)) }
@@ -69,11 +69,9 @@ fn core_of(alloc: Global, source: &[u8]) -> Result<Core, SourceError>
 fn tree_of(alloc: Global, source: &[u8]) -> Result<Tree, SourceError>
     requires { length source.now ≤ 1048576 }
     ensures tree { IfOk result (λ tree. HasTree source.now (plain_tree tree)) }
-    ensures written { IfOk result (λ tree. IsWritten (plain_tree tree)) }
     ensures refused { IfErr result (Stops source.now) }
 {
     let tokens = tokens_of(alloc, source)?;
-    read_trees_are_written();
     match parse(alloc, tokens.as_slice(), source.len() as u32) {
         Ok(tree) => Ok(tree),
         Err(ParseError::Nesting) => Err(SourceError::Refused(Refusal::Nesting)),
