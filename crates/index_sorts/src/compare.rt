@@ -1,4 +1,4 @@
-// Rows against rows.
+//! Rows against rows.
 ghost use Rattle.std.specs.Prelude.{◌≡◌, ◌||◌};
 ghost use Rattle.std.specs.List.{list_any};
 ghost use Rattle.index_sorts.specs.Known.{same_form, holds_always};

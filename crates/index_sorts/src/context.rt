@@ -1,4 +1,4 @@
-// The context and its calls.
+//! The context and its calls.
 ghost use Rattle.std.specs.Prelude.{◌≡◌, ◌≤◌, ◌⊎◌, ◌↔◌, IsTrue, IfOk, IfErr, OnOk, OnErr, Ok, Err, length, All};
 ghost use Rattle.index_sorts.specs.Context.{NamesBelow, new_context, fresh_from, with_variables};
 ghost use Rattle.index_sorts.specs.Known.{IsKnown, knows, with_row};

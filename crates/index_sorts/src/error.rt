@@ -1,4 +1,4 @@
-// Why a call on a context is refused.
+//! Why a call on a context is refused.
 
 /// Why a context is not made or not changed.
 #[derive(Clone, Copy, Debug, PartialEq, Eq, Drop)]

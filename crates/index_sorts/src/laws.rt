@@ -1,4 +1,4 @@
-// What a context knows is true of its variables.
+//! What a context knows is true of its variables.
 ghost use Rattle.index_sorts.specs.Context.{IndexContext};
 ghost use Rattle.index_sorts.specs.Known.{IsKnown};
 ghost use Rattle.index_sorts.specs.Entails.{Entails};

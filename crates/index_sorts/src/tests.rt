@@ -1,4 +1,4 @@
-// The bounds from both sides, and each call once.
+//! The bounds from both sides, and each call once.
 ghost use Rattle.std.specs.Prelude.{◌≡◌, ◌<◌};
 
 use crate::{Context, ContextError};

@@ -1,5 +1,5 @@
 -- How many rows a system has, and how many steps it takes.
-use Rattle.std.proofs.Common.{◌≡◌, ℕ, zero, suc, ◌+◌, ◌*◌, ◌-◌, ◌<◌, ◌≤◌, ℤ, pos, Bool, true, false, cond, nat_lt, int_lt, List, [], ◌∷◌, ◌++◌, length, filter, Option, Some, None, Result, Ok, Err, refl, sym, ◌∙◌, ap, subst, arith}
+use Rattle.std.proofs.Common.{◌≡◌, ℕ, zero, suc, ◌+◌, ◌-◌, ◌≤◌, ℤ, pos, Bool, true, false, cond, nat_lt, int_lt, List, [], ◌∷◌, ◌++◌, length, None, Result, Ok, Err, refl, sym, ◌∙◌, ap, arith}
 use Rattle.std.proofs.lemmas.List.{length-append}
 use Rattle.xan_lin.specs.Linear.{Linear, are_within}
 use Rattle.xan_lin.specs.declared.term.LimitKind.{LimitKind}
@@ -11,9 +11,8 @@ use Rattle.linear_solver.specs.declared.source.Source.{Source}
 use Rattle.linear_solver.specs.declared.source.Source.TheVariants.{Line, New}
 use Rattle.linear_solver.specs.declared.source.Sign.TheVariants.{Positive, Negative, Zero}
 use Rattle.linear_solver.specs.declared.source.Look.{Look}
-use Rattle.linear_solver.specs.declared.source.Look.TheVariants.{Full, Refuted, Spent, Take}
-use Rattle.linear_solver.specs.declared.choose.Choice.{Choice}
-use Rattle.linear_solver.specs.Systems.{Row, linear_of, tight, same_terms, lesser, placed, holds, settle, reduced_onto, with_sign, limited, bounded, with_sum, and_then, with_sums, with_all_sums, next_rows, size, sum_source, sum_of_two}
+use Rattle.linear_solver.specs.declared.source.Look.TheVariants.{Full, Take}
+use Rattle.linear_solver.specs.Systems.{Row, linear_of, tight, same_terms, lesser, placed, holds, settle, reduced_onto, with_sign, limited, with_sum, and_then, with_sums, with_all_sums, next_rows, size, sum_source, sum_of_two}
 use Rattle.linear_solver.specs.Choosing.{refuted_by, best_from, refuted_or, look_at}
 use Rattle.linear_solver.specs.Numbering.{with_source, source_line, with_cut, steps_with}
 use Rattle.linear_solver.specs.Elimination.{bears, with_hyps, first_rows}

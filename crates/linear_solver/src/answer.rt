@@ -1,4 +1,4 @@
-// What comes of an elimination.
+//! What comes of an elimination.
 use xan_lin::LimitKind;
 
 /// How many rows of its pool must be free for a call of the solver.

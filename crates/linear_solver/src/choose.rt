@@ -1,4 +1,4 @@
-// What a look at a system shows.
+//! What a look at a system shows.
 ghost use Rattle.std.specs.Prelude.{◌≡◌, ◌≤◌, ◌<◌, ◌^◌, length, None};
 ghost use Rattle.linear_solver.specs.Choosing.{is_before, better, choice_of, candidate, best_from, refuted_by, look_at};
 

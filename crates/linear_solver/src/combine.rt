@@ -1,4 +1,4 @@
-// The sum of two rows of terms, each times a number.
+//! The sum of two rows of terms, each times a number.
 ghost use Rattle.std.specs.Prelude.{◌≡◌, ◌^◌, ◌<◌, ◌++◌, ◌+◌, nat_lt, [], pos, true, false, IsTrue, IfOk, MatchOption, unsigned_abs, length};
 ghost use Rattle.xan_lin.specs.Terms.{IsRising, with_multiple};
 ghost use Rattle.xan_lin.specs.Linear.{all_within};

@@ -1,4 +1,4 @@
-// The variables that bear on a row.
+//! The variables that bear on a row.
 ghost use Rattle.std.specs.Prelude.{◌≡◌, ◌≤◌, ◌<◌, length, nat_lt, true, IfOk, MatchOption, if◌then◌else◌};
 ghost use Rattle.proof_lines.specs.Variables.{is_among, with_variable, with_terms};
 ghost use Rattle.linear_solver.specs.Cone.{touches, reached, cone};

@@ -1,4 +1,4 @@
-// Greatest common divisors.
+//! Greatest common divisors.
 ghost use Rattle.std.specs.Prelude.{◌≡◌, ◌^◌, ◌<◌, ◌/◌, pos, IsTrue, unsigned_abs};
 ghost use Rattle.xan_lin.specs.Linear.{all_within};
 ghost use Rattle.linear_solver.specs.Divisors.{gcd, divisor};

@@ -1,4 +1,4 @@
-// The first system.
+//! The first system.
 ghost use Rattle.std.specs.Prelude.{◌≡◌, ◌≤◌, length, IfOk, OnOk, if◌then◌else◌};
 ghost use Rattle.linear_solver.specs.declared.step.Step.TheVariants.{Hyp};
 ghost use Rattle.linear_solver.specs.declared.source.Source.TheVariants.{New};

@@ -1,4 +1,4 @@
-// What every form keeps.
+//! What every form keeps.
 ghost use Rattle.std.specs.List.{All};
 ghost use Rattle.xan_lin.specs.Linear.{IsForm};
 

@@ -1,4 +1,4 @@
-// What it means that the elimination proves a goal.
+//! What it means that the elimination proves a goal.
 ghost use Rattle.std.specs.Prelude.{◌≡◌, List};
 ghost use Rattle.std.specs.List.{All};
 ghost use Rattle.xan_lin.specs.Linear.{Linear, IsForm};

@@ -1,4 +1,4 @@
-// The next system: the rows without a variable, and the sums of those with it.
+//! The next system: the rows without a variable, and the sums of those with it.
 ghost use Rattle.std.specs.Prelude.{◌≡◌, length, OnOk, IfOk, MatchOption, false, true, if◌then◌else◌, Err};
 ghost use Rattle.xan_lin.specs.Linear.{Linear, are_within};
 ghost use Rattle.xan_lin.specs.declared.term.LimitKind.TheVariants as limit;

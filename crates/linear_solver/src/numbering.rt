@@ -1,4 +1,4 @@
-// How the rows of a reduced system get their steps.
+//! How the rows of a reduced system get their steps.
 ghost use Rattle.std.specs.Prelude.{◌≡◌, ◌+◌, ◌*◌, ◌<◌, ◌≤◌, [], length, IfOk, OnOk};
 ghost use Rattle.linear_solver.specs.Numbering.{with_source, source_line, with_cut, cut_line, steps_with, line_with, numbered};
 

@@ -1,4 +1,4 @@
-// Arithmetic on the numbers of rows.
+//! Arithmetic on the numbers of rows.
 ghost use Rattle.std.specs.Prelude.{◌≡◌, ◌-◌, ◌^◌, ◌<◌, ◌≤◌, ◌+ℤ◌, ◌*ℤ◌, unsigned_abs, IsTrue, true, false, MatchOption};
 ghost use Rattle.xan_lin.specs.Linear.{is_within};
 ghost use Rattle.proof_lines.specs.Rows.{floor_over};

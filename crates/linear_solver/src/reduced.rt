@@ -1,4 +1,4 @@
-// A reduced list of rows in the making.
+//! A reduced list of rows in the making.
 ghost use Rattle.std.specs.Prelude.{◌≡◌, ◌<◌, ◌↔◌, [], ◌∷◌, ◌++◌, length, IsTrue, IfOk, OnOk, OnSome, MatchOption, None, Some, slice_get, slice_set, true, false};
 ghost use Rattle.std.specs.List.{position, list_any, slice_index_or};
 ghost use Rattle.linear_solver.specs.Systems.{Row, same_terms, settle, placed, lesser};

@@ -1,4 +1,4 @@
-// The rounds of the elimination.
+//! The rounds of the elimination.
 ghost use Rattle.std.specs.Prelude.{◌≡◌, ◌≤◌, [], length};
 ghost use Rattle.linear_solver.specs.Elimination.{ended, rounds, in_cone};
 ghost use Rattle.linear_solver.specs.Solving.{Answers};

@@ -1,4 +1,4 @@
-// A row of a system.
+//! A row of a system.
 ghost use Rattle.std.specs.Prelude.{◌≡◌, ◌^◌, ◌<◌, IsTrue, IfOk, pos, map, unsigned_abs};
 ghost use Rattle.xan_lin.specs.Terms.{IsRising};
 ghost use Rattle.xan_lin.specs.Linear.{all_within};

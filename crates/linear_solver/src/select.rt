@@ -1,4 +1,4 @@
-// The rows by the coefficient of a variable.
+//! The rows by the coefficient of a variable.
 ghost use Rattle.std.specs.Prelude.{◌≡◌, ◌≤◌, length, IfOk};
 ghost use Rattle.linear_solver.specs.Systems.{with_sign};
 

@@ -1,4 +1,4 @@
-// The solver's call.
+//! The solver's call.
 ghost use Rattle.std.specs.Prelude.{◌≡◌, ◌+◌, ◌≤◌, length, IfOk};
 ghost use Rattle.linear_solver.specs.Elimination.{refutation, elimination, proof_steps};
 ghost use Rattle.linear_solver.specs.Solving.{Answers};

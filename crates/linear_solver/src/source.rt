@@ -1,4 +1,4 @@
-// Where a row of a system comes from.
+//! Where a row of a system comes from.
 use crate::step::Step;
 
 /// Where a row of a system comes from.

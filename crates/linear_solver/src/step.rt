@@ -1,4 +1,4 @@
-// A step of a refutation.
+//! A step of a refutation.
 
 /// A step of a refutation: a line of a proof in which a hypothesis is named by its number. It gives one row from the rows of the steps
 /// before it, which are counted from 0.

@@ -1,4 +1,4 @@
-// Why a pass over rows ends early.
+//! Why a pass over rows ends early.
 use std::alloc::AllocError;
 use xan_lin::LimitKind;
 

@@ -1,4 +1,4 @@
-// The steps from which one of them is made, counted anew.
+//! The steps from which one of them is made, counted anew.
 ghost use Rattle.std.specs.Prelude.{◌≡◌, ◌+◌, take, ◌≤◌, ◌^◌, ◌<◌, [], ◌∷◌, ◌++◌, length, replicate, slice_set, true, false, IfOk};
 ghost use Rattle.std.specs.List.{slice_index_or};
 ghost use Rattle.linear_solver.specs.Tracing.{with_marks, marked_at, marked_below, needed, renumbered, kept_onto, traced};

@@ -1,4 +1,4 @@
-// Why lines prove nothing.
+//! Why lines prove nothing.
 
 /// The first line that is bad, counted from 0, and the first reason that it has.
 #[derive(Clone, Copy, Debug, PartialEq, Eq, Drop)]

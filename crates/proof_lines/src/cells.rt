@@ -1,4 +1,4 @@
-// Rows as 65 cells: one for each column of a variable, and the constant.
+//! Rows as 65 cells: one for each column of a variable, and the constant.
 ghost use Rattle.std.specs.Prelude.{◌≡◌, ◌<◌, ◌≤◌, ◌&&◌, ◌∷◌, ◌++◌, [], pos, true, false, IsTrue, MatchOption, length, take, map, nat_lt, int_lt};
 ghost use Rattle.std.specs.List.{list_all, slice_index_or};
 ghost use Rattle.arrayvec.specs.ArrayVec.{array_vec_len};

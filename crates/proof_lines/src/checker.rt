@@ -1,4 +1,4 @@
-// The check, line by line.
+//! The check, line by line.
 ghost use Rattle.std.specs.Prelude.{◌≡◌, ◌+◌, ◌<◌, ◌≤◌, ◌^◌, ◌↔◌, ◌∷◌, ◌++◌, [], List, IsOk, IfSome, length, take, drop, slice_get, option_map, if◌then◌else◌, Err};
 ghost use Rattle.xan_lin.specs.Linear.{Linear};
 ghost use Rattle.proof_lines.specs.declared.bad_line.Why.TheVariants as why;

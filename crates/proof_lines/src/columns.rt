@@ -1,4 +1,4 @@
-// Which variable has which column of the cells.
+//! Which variable has which column of the cells.
 ghost use Rattle.std.specs.Prelude.{◌≡◌, ◌+◌, ◌<◌, ◌≤◌, ◌↔◌, [], ◌∷◌, ◌++◌, length, nat_lt, Some, true, false, IsTrue, OnSome, MatchOption, slice_get, ◌==◌};
 ghost use Rattle.std.specs.List.{position};
 ghost use Rattle.proof_lines.specs.Variables.{with_variable};

@@ -1,4 +1,4 @@
-// The reading of forms, as `+2v0-1v3+0`.
+//! The reading of forms, as `+2v0-1v3+0`.
 ghost use Rattle.std.specs.Prelude.{◌≡◌, ◌++◌};
 ghost use Rattle.xan_read.specs.Code.{Gives};
 ghost use Rattle.proof_lines.specs.Reading.{after_number, form_part, form};

@@ -1,4 +1,4 @@
-// The search for a row among the hypotheses.
+//! The search for a row among the hypotheses.
 ghost use Rattle.std.specs.Prelude.{◌≡◌};
 ghost use Rattle.std.specs.List.{position};
 ghost use Rattle.std.specs.Cmp.Lexicographic.{pointwise};

@@ -1,4 +1,4 @@
-// What it means that lines prove a goal.
+//! What it means that lines prove a goal.
 ghost use Rattle.std.specs.Prelude.{◌≡◌, ◌↔◌, List, Ok};
 ghost use Rattle.xan_lin.specs.Linear.{Linear};
 ghost use Rattle.index_sorts.specs.Entails.{Entails};

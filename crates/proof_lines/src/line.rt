@@ -1,4 +1,4 @@
-// A line of a proof.
+//! A line of a proof.
 use xan_lin::Form;
 
 /// A line of a proof that rows have no assignment under which a goal fails. It gives one row from the rows of the lines before it, which

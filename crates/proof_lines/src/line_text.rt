@@ -1,4 +1,4 @@
-// The reading of lines, as `c 1 0 1 1`.
+//! The reading of lines, as `c 1 0 1 1`.
 ghost use Rattle.std.specs.Prelude.{◌≡◌, IfOk, IfErr, length};
 ghost use Rattle.xan_read.specs.Code.{Gives, Reads};
 ghost use Rattle.xan_read.specs.Reader.{whole_text};

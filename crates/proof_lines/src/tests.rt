@@ -1,4 +1,4 @@
-// Rows by hand for the definitions: what the check answers, and which bytes are lines.
+//! Rows by hand for the definitions: what the check answers, and which bytes are lines.
 ghost use Rattle.std.specs.Prelude.{◌≡◌, ◌<◌};
 
 use crate::checker::walk;

@@ -1,4 +1,4 @@
-// Why bytes spell no lines.
+//! Why bytes spell no lines.
 use thiserror::Error;
 
 /// Why some bytes were not read as lines.

@@ -1,4 +1,4 @@
-// The spelling of lines, as `by h +1v1+0;g;c 1 0 1 1`.
+//! The spelling of lines, as `by h +1v1+0;g;c 1 0 1 1`.
 ghost use Rattle.std.specs.Prelude.{◌≡◌, ◌+◌, ◌<◌, ◌≤◌, ◌∷◌, ◌++◌, [], length, take, codes, decimal, OnOk, OnErr, vec_len};
 ghost use Rattle.std.specs.Fmt.{signed_decimal};
 ghost use Rattle.xan_lin.specs.Text.{form_text};

@@ -1,4 +1,4 @@
-// Numbers against the bound.
+//! Numbers against the bound.
 ghost use Rattle.std.specs.Prelude.{◌≡◌};
 ghost use Rattle.xan_lin.specs.Linear.{is_within, all_within, are_within, cut_number};
 

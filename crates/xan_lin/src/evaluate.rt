@@ -1,4 +1,4 @@
-// The value of terms and a constant under an assignment.
+//! The value of terms and a constant under an assignment.
 ghost use Rattle.std.specs.Prelude.{◌≡◌, ◌<◌, ◌≤◌, ◌+ℤ◌, length, All};
 ghost use Rattle.xan_lin.specs.Value.{value_of_terms};
 ghost use Rattle.xan_lin.specs.Wide.{whole, IsSumOf};

@@ -1,4 +1,4 @@
-// The form and its calls.
+//! The form and its calls.
 ghost use Rattle.std.specs.Prelude.{◌≡◌, ◌↔◌, length, ◌≤◌, ◌++◌, OnOk, OnErr, IfErr, IsTrue};
 ghost use Rattle.xan_lin.specs.Terms.{IsRising};
 ghost use Rattle.xan_lin.specs.Text.{form_text};

@@ -1,4 +1,4 @@
-// What the exact results mean: their values, under every assignment.
+//! What the exact results mean: their values, under every assignment.
 ghost use Rattle.std.specs.Prelude.{◌≡◌, ℕ, ℤ, pos, ◌+ℤ◌, ◌-ℤ◌, ◌*ℤ◌, neg_ℤ, List, Ok};
 ghost use Rattle.xan_lin.specs.Linear.{Linear, sum_of, difference_of, product_of, negated_row_of, form_of, NamesBelow};
 ghost use Rattle.xan_lin.specs.Subst.{Gives, given_values, subst_of};

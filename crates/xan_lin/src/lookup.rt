@@ -1,4 +1,4 @@
-// The forms that are listed for variables.
+//! The forms that are listed for variables.
 ghost use Rattle.std.specs.Prelude.{◌≡◌, true, false, nat_lt, option_map};
 ghost use Rattle.std.specs.List.Sorted.{IsPartitionPoint};
 ghost use Rattle.xan_lin.specs.Subst.{VariablesRise, listed};

@@ -1,4 +1,4 @@
-// Sums of rising terms.
+//! Sums of rising terms.
 ghost use Rattle.std.specs.Prelude.{◌≡◌, ◌+◌, ◌<◌, ◌≤◌, ◌+ℤ◌, ◌-ℤ◌, pos, [], ◌++◌, map, take, neg_ℤ, IsTrue, length};
 ghost use Rattle.arrayvec.specs.ArrayVec.{array_vec_len};
 ghost use Rattle.xan_lin.specs.Terms.{sum_terms, negated_term, negated_terms, with_multiple, IsRising};

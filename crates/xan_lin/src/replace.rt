@@ -1,4 +1,4 @@
-// What stands for the terms of a form when each variable is replaced.
+//! What stands for the terms of a form when each variable is replaced.
 ghost use Rattle.std.specs.Prelude.{◌≡◌, ◌+◌, ◌≤◌, ◌+ℤ◌, ◌++◌, length};
 ghost use Rattle.arrayvec.specs.ArrayVec.{array_vec_len};
 ghost use Rattle.xan_lin.specs.Products.{product_terms};

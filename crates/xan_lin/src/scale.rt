@@ -1,4 +1,4 @@
-// Products by a number.
+//! Products by a number.
 ghost use Rattle.std.specs.Prelude.{◌≡◌, ◌<◌, ◌≤◌, ◌*ℤ◌, [], ◌++◌, true, false, IsTrue, MatchOption, length};
 ghost use Rattle.arrayvec.specs.ArrayVec.{array_vec_len};
 ghost use Rattle.xan_lin.specs.Terms.{scaled_terms, with_multiple};

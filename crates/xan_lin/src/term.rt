@@ -1,4 +1,4 @@
-// Terms, and what can be too large.
+//! Terms, and what can be too large.
 
 /// The greatest magnitude of a number in a form.
 pub const BOUND: i64 = 4611686018427387903;

@@ -1,4 +1,4 @@
-// The spelling of forms. A text is made on the stack first, so that it goes out whole or not at all.
+//! The spelling of forms. A text is made on the stack first, so that it goes out whole or not at all.
 ghost use Rattle.std.specs.Prelude.{◌≡◌, ◌+◌, ◌*◌, ◌≤◌, ◌++◌, codes, decimal, length};
 ghost use Rattle.arrayvec.specs.ArrayVec.{array_vec_len};
 ghost use Rattle.xan_lin.specs.Text.{number_text, term_text, terms_text};

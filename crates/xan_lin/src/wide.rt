@@ -1,4 +1,4 @@
-// Sums of products of two words. Such a sum can pass 127 bits, so that it is kept in two halves.
+//! Sums of products of two words. Such a sum can pass 127 bits, so that it is kept in two halves.
 ghost use Rattle.std.specs.Prelude.{◌≡◌, ◌↔◌, ◌+◌, ◌*◌, ◌^◌, ◌<◌, ◌≤◌, pos, ◌+ℤ◌, ◌-ℤ◌, ◌*ℤ◌, ◌<ℤ◌, unsigned_abs, IsTrue};
 ghost use Rattle.xan_lin.specs.Wide.{whole, HasRoom, GrowsByOne};
 ghost use Rattle.xan_lin.specs.Linear.{cut_number};

@@ -1,4 +1,4 @@
-// The systems of the table.
+//! The systems of the table.
 use crate::Answer;
 use xan_lin::LimitKind;
 

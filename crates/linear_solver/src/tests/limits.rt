@@ -1,4 +1,4 @@
-// The limits, from both sides.
+//! The limits, from both sides.
 use crate::Answer;
 use crate::tests::run::{add, run_of};
 use index_sorts::Context;

@@ -1,4 +1,4 @@
-// How a system of a test is run.
+//! How a system of a test is run.
 ghost use Rattle.std.specs.Prelude.{◌≡◌, ◌+◌, ◌≤◌, ◌<◌, ◌^◌, length};
 
 use crate::{Answer, LineBuf, refute};

@@ -1,4 +1,4 @@
-// The table.
+//! The table.
 use crate::tests::cases::CASES;
 use crate::tests::run::runs_as;
 use std::test::Fail;

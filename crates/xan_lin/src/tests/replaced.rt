@@ -1,4 +1,4 @@
-// Forms in which the variables are replaced. The answers are worked out by hand.
+//! Forms in which the variables are replaced. The answers are worked out by hand.
 use crate::{BOUND, Form, Term, TooLarge};
 use std::alloc::Global;
 use std::test::Fail;

@@ -1,4 +1,4 @@
-// Sums, differences and products, and how they are spelled.
+//! Sums, differences and products, and how they are spelled.
 use crate::{BOUND, Form, Term, TooLarge};
 use std::test::Fail;
 

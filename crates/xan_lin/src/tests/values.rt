@@ -1,4 +1,4 @@
-// Values of forms, also past 127 bits.
+//! Values of forms, also past 127 bits.
 use crate::{BOUND, Form, Term};
 use std::test::Fail;
 
