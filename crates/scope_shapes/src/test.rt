@@ -29,7 +29,7 @@ fn leaf(typed: Typed, at: u32) -> Result<Test, ShapeError>
     Ok(making::leaf(asked(Kind::Bool, at, typed)?))
 }
 
-#[cycle(test)]
+#[cycle(tests)]
 #[tactic(auto, using(xanadu_tree::proofs::TreeEquations::plain_nodes), unfolding(crate::specs::Expressions::test))]
 pub fn test(e: &Expression, site: &Site<'_, '_>) -> Result<Test, ShapeError>
     ensures { Gives plain_test result (spec.test (globals_of site.now.globals.now) (locals_of site.now.locals.now) (plain_expression e.now)) }
@@ -42,7 +42,7 @@ pub fn test(e: &Expression, site: &Site<'_, '_>) -> Result<Test, ShapeError>
 }
 
 /// The parts of `||`, of which this one is the first.
-#[cycle(test)]
+#[cycle(tests)]
 #[tactic(auto, using(xanadu_tree::proofs::TreeEquations::plain_nodes), unfolding(crate::specs::Expressions::any_tests))]
 fn any_tests(
     rest: &[(Conjunction, u32)],
@@ -59,7 +59,7 @@ fn any_tests(
     Ok(parts)
 }
 
-#[cycle(test)]
+#[cycle(tests)]
 #[tactic(auto, using(xanadu_tree::proofs::TreeEquations::plain_nodes), unfolding(crate::specs::Expressions::conjunction_test))]
 fn conjunction_test(c: &Conjunction, site: &Site<'_, '_>) -> Result<Test, ShapeError>
     ensures { Gives plain_test result (spec.conjunction_test (globals_of site.now.globals.now) (locals_of site.now.locals.now) (plain_conjunction c.now)) }
@@ -72,7 +72,7 @@ fn conjunction_test(c: &Conjunction, site: &Site<'_, '_>) -> Result<Test, ShapeE
 }
 
 /// The parts of `&&`, of which this one is the first.
-#[cycle(test)]
+#[cycle(tests)]
 #[tactic(auto, using(xanadu_tree::proofs::TreeEquations::plain_nodes), unfolding(crate::specs::Expressions::all_tests))]
 fn all_tests(
     rest: &[(Negation, u32)],
@@ -89,7 +89,7 @@ fn all_tests(
     Ok(parts)
 }
 
-#[cycle(test)]
+#[cycle(tests)]
 #[tactic(auto, using(xanadu_tree::proofs::TreeEquations::plain_nodes), unfolding(crate::specs::Expressions::negation_test))]
 fn negation_test(n: &Negation, site: &Site<'_, '_>) -> Result<Test, ShapeError>
     ensures { Gives plain_test result (spec.negation_test (globals_of site.now.globals.now) (locals_of site.now.locals.now) (plain_negation n.now)) }
@@ -101,7 +101,7 @@ fn negation_test(n: &Negation, site: &Site<'_, '_>) -> Result<Test, ShapeError>
     Ok(making::opposite_test(part, site.alloc)?)
 }
 
-#[cycle(test)]
+#[cycle(tests)]
 #[tactic(auto, using(xanadu_tree::proofs::TreeEquations::plain_nodes), unfolding(crate::specs::Expressions::comparison_test))]
 fn comparison_test(c: &Comparison, site: &Site<'_, '_>) -> Result<Test, ShapeError>
     ensures { Gives plain_test result (spec.comparison_test (globals_of site.now.globals.now) (locals_of site.now.locals.now) (plain_comparison c.now)) }
@@ -112,7 +112,7 @@ fn comparison_test(c: &Comparison, site: &Site<'_, '_>) -> Result<Test, ShapeErr
     sum_test(&c.left, site)
 }
 
-#[cycle(test)]
+#[cycle(tests)]
 #[tactic(auto, using(xanadu_tree::proofs::TreeEquations::plain_nodes), unfolding(crate::specs::Expressions::sum_test))]
 fn sum_test(s: &Sum, site: &Site<'_, '_>) -> Result<Test, ShapeError>
     ensures { Gives plain_test result (spec.sum_test (globals_of site.now.globals.now) (locals_of site.now.locals.now) (plain_sum s.now)) }
@@ -123,7 +123,7 @@ fn sum_test(s: &Sum, site: &Site<'_, '_>) -> Result<Test, ShapeError>
     product_test(&s.first, site)
 }
 
-#[cycle(test)]
+#[cycle(tests)]
 #[tactic(auto, using(xanadu_tree::proofs::TreeEquations::plain_nodes), unfolding(crate::specs::Expressions::product_test))]
 fn product_test(p: &Product, site: &Site<'_, '_>) -> Result<Test, ShapeError>
     ensures { Gives plain_test result (spec.product_test (globals_of site.now.globals.now) (locals_of site.now.locals.now) (plain_product p.now)) }
@@ -134,7 +134,7 @@ fn product_test(p: &Product, site: &Site<'_, '_>) -> Result<Test, ShapeError>
     unary_test(&p.first, site)
 }
 
-#[cycle(test)]
+#[cycle(tests)]
 #[tactic(auto, using(xanadu_tree::proofs::TreeEquations::plain_nodes), unfolding(crate::specs::Expressions::unary_test))]
 fn unary_test(u: &Unary, site: &Site<'_, '_>) -> Result<Test, ShapeError>
     ensures { Gives plain_test result (spec.unary_test (globals_of site.now.globals.now) (locals_of site.now.locals.now) (plain_unary u.now)) }
@@ -145,7 +145,7 @@ fn unary_test(u: &Unary, site: &Site<'_, '_>) -> Result<Test, ShapeError>
     postfix_test(&u.operand, site)
 }
 
-#[cycle(test)]
+#[cycle(tests)]
 #[tactic(auto, using(xanadu_tree::proofs::TreeEquations::plain_nodes), unfolding(crate::specs::Expressions::postfix_test))]
 fn postfix_test(p: &Postfix, site: &Site<'_, '_>) -> Result<Test, ShapeError>
     ensures { Gives plain_test result (spec.postfix_test (globals_of site.now.globals.now) (locals_of site.now.locals.now) (plain_postfix p.now)) }
@@ -156,7 +156,7 @@ fn postfix_test(p: &Postfix, site: &Site<'_, '_>) -> Result<Test, ShapeError>
     primary_test(&p.primary, site)
 }
 
-#[cycle(test)]
+#[cycle(tests)]
 #[tactic(auto, using(xanadu_tree::proofs::TreeEquations::plain_nodes), unfolding(crate::specs::Expressions::primary_test))]
 fn primary_test(p: &Primary, site: &Site<'_, '_>) -> Result<Test, ShapeError>
     ensures { Gives plain_test result (spec.primary_test (globals_of site.now.globals.now) (locals_of site.now.locals.now) (plain_primary p.now)) }

@@ -160,7 +160,7 @@ module _ (most : ℕ) (inner : Family plain.Block) (exact : (Stops : List Token 
 
   branches_said : (at : ℕ) → Exact most 0 (λ room. read.branches room (inner room) at) (Formed (λ (z : If_). plain.If z.0 z.1.0 (to_branch z.1.1.0) z.1.1.1 at) if_fits if_parts) AfterStatement
   unfolding read.branches
-  branches_said at = formed-field most 0 0 (λ room. read.test room) (λ t room. in_turn (inner room) (λ y. in_turn (read.otherwise room (inner room)) (λ n. made (λ c. plain.If t y (to_branch n) c at) (types.clause_behind word_of.Join))))
+  branches_said at = formed-field most 0 0 (λ room. read.condition room) (λ t room. in_turn (inner room) (λ y. in_turn (read.otherwise room (inner room)) (λ n. made (λ c. plain.If t y (to_branch n) c at) (types.clause_behind word_of.Join))))
       (λ t z. plain.If t z.0 (to_branch z.1.0) z.1.1 at) FitsExpression (λ z. FitsBlock z.0 × (FitsBranch z.1.0 × IsAsked z.1.1)) (λ e. mark_piece symbol.LeftParen ∷ then_paren e) (λ z. block_pieces z.0 ++ (branch_of z.1.0 ++ optional (clause_behind word_of.Join) z.1.1))
       (λ _. Unit {0}) AfterStatement (test_said most (λ _. Unit {0}))
       (λ t. formed-field most 0 0 inner (λ y room. in_turn (read.otherwise room (inner room)) (λ n. made (λ c. plain.If t y (to_branch n) c at) (types.clause_behind word_of.Join))) (λ y z. plain.If t y (to_branch z.0) z.1 at) FitsBlock (λ z. FitsBranch z.0 × IsAsked z.1)
@@ -175,7 +175,7 @@ module _ (most : ℕ) (inner : Family plain.Block) (exact : (Stops : List Token 
 
   repeated_said : (at : ℕ) → Exact most 0 (λ room. read.repeated_block room (inner room) at) (Formed (λ (z : While_). plain.While z.0 z.1.0 z.1.1 at) while_fits while_parts) AfterStatement
   unfolding read.repeated_block
-  repeated_said at = formed-field most 0 0 (λ room. read.test room) (λ t room. in_turn (types.clause_behind word_of.With) (λ c. made (λ b. plain.While t c b at) (inner room))) (λ t z. plain.While t z.0 z.1 at) FitsExpression (λ z. IsAsked z.0 × FitsBlock z.1)
+  repeated_said at = formed-field most 0 0 (λ room. read.condition room) (λ t room. in_turn (types.clause_behind word_of.With) (λ c. made (λ b. plain.While t c b at) (inner room))) (λ t z. plain.While t z.0 z.1 at) FitsExpression (λ z. IsAsked z.0 × FitsBlock z.1)
       (λ e. mark_piece symbol.LeftParen ∷ then_paren e) (λ z. optional (clause_behind word_of.With) z.0 ++ block_pieces z.1) (λ _. Unit {0}) AfterStatement (test_said most (λ _. Unit {0}))
       (λ t. formed-field most 0 0 (λ _. types.clause_behind word_of.With) (λ c room. made (λ b. plain.While t c b at) (inner room)) (λ c b. plain.While t c b at) IsAsked FitsBlock (optional (clause_behind word_of.With)) block_pieces NoWith AfterStatement
       (exact_clause_behind most 0 word_of.With NoWith (λ rest none. none))

@@ -56,9 +56,9 @@ module _ (most : ℕ) (Stops : List Token → Type 0) where
       (λ token rest is. ends_at after_expression token rest (kind.Symbol symbol.Semicolon) is refl)
 
   -- an expression in parentheses
-  pub test_said : Exact most 0 (λ room. read.test room) (Said FitsExpression (λ e. mark_piece symbol.LeftParen ∷ then_paren e)) Stops
-  unfolding read.test
-  test_said = said-of most 0 (λ room. read.test room) (λ (e : plain.Expression). e) FitsExpression (λ e. mark_piece symbol.LeftParen ∷ then_paren e) FitsExpression (λ e. mark_piece symbol.LeftParen ∷ then_paren e) Stops Stops
+  pub test_said : Exact most 0 (λ room. read.condition room) (Said FitsExpression (λ e. mark_piece symbol.LeftParen ∷ then_paren e)) Stops
+  unfolding read.condition
+  test_said = said-of most 0 (λ room. read.condition room) (λ (e : plain.Expression). e) FitsExpression (λ e. mark_piece symbol.LeftParen ∷ then_paren e) FitsExpression (λ e. mark_piece symbol.LeftParen ∷ then_paren e) Stops Stops
       (formed-behind most 0 0 (mark symbol.LeftParen) (kind.Symbol symbol.LeftParen) (λ room. before (mark symbol.RightParen) (expression room)) (λ e. e) FitsExpression then_paren Stops (mark-kind symbol.LeftParen) (at_0 (kind.Symbol symbol.LeftParen)) refl
       (formed-of most 0 (λ room. before (mark symbol.RightParen) (expression room)) FitsExpression then_paren (λ e. e) FitsExpression then_paren Stops
       (said-before most 0 (mark symbol.RightParen) (kind.Symbol symbol.RightParen) E_ FitsExpression expression_pieces (Ends (by_mark after_expression)) Stops (mark-kind symbol.RightParen) (at_0 (kind.Symbol symbol.RightParen)) refl (exact-expression most)

@@ -19,8 +19,8 @@ module _ (room : ℕ) where
   unfoldable pub ended : Reader plain.Expression
   ended = before (mark symbol.Semicolon) (expression room)
 
-  unfoldable pub test : Reader plain.Expression
-  test = behind (mark symbol.LeftParen) (before (mark symbol.RightParen) (expression room))
+  unfoldable pub condition : Reader plain.Expression
+  condition = behind (mark symbol.LeftParen) (before (mark symbol.RightParen) (expression room))
 
   unfoldable pub declared : ℕ → Reader plain.Statement
   declared at = in_turn (take lower) (λ name. behind (mark symbol.Equal) (made (λ e. plain.Declare name e at) ended))
@@ -54,10 +54,10 @@ module _ (room : ℕ) where
     otherwise = optional (keyword word.Else) (λ _. inner)
 
     unfoldable pub branches : ℕ → Reader plain.Statement
-    branches at = in_turn test (λ t. in_turn inner (λ yes_block. in_turn otherwise (λ no_block. made (λ c. plain.If t yes_block (to_branch no_block) c at) (clause_behind word.Join))))
+    branches at = in_turn condition (λ t. in_turn inner (λ yes_block. in_turn otherwise (λ no_block. made (λ c. plain.If t yes_block (to_branch no_block) c at) (clause_behind word.Join))))
 
     unfoldable pub repeated_block : ℕ → Reader plain.Statement
-    repeated_block at = in_turn test (λ t. in_turn (clause_behind word.With) (λ c. made (λ b. plain.While t c b at) inner))
+    repeated_block at = in_turn condition (λ t. in_turn (clause_behind word.With) (λ c. made (λ b. plain.While t c b at) inner))
 
     unfoldable pub statement : Reader plain.Statement
     statement = where_comes (keyword word.If) branches (where_comes (keyword word.While) repeated_block simple)

@@ -25,9 +25,9 @@ fn ended(alloc: Global, tokens: &mut Tokens<'_>, room: usize) -> Result<Expressi
 }
 
 /// An expression in parentheses.
-#[tactic(auto, unfolding(crate::specs::Statements::test))]
+#[tactic(auto, unfolding(crate::specs::Statements::condition))]
 fn test(alloc: Global, tokens: &mut Tokens<'_>, room: usize) -> Result<Expression, Stop>
-    ensures { Reads plain_expression result tokens.new (spec.test room tokens.old) }
+    ensures { Reads plain_expression result tokens.new (spec.condition room tokens.old) }
 {
     tokens.symbol(Symbol::LeftParen)?;
     let test = expression(alloc, tokens, room)?;

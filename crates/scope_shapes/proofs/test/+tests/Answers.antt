@@ -12,7 +12,7 @@ use Rattle.scope_shapes.specs.NodesOf.{conjunctions_of, negations_of}
 use Rattle.scope_shapes.specs.SitesOf.{globals_of, locals_of}
 use Rattle.scope_shapes.proofs.Binds.{then-ok, fails-then}
 use Rattle.scope_shapes.proofs.Choices.{any_of, all_of, test-any, conjunction-all}
-use Rattle.scope_shapes.proofs.test.+test.Goals as goal
+use Rattle.scope_shapes.proofs.test.+tests.Goals as goal
 
 pub conjunction_test-returns : goal.conjunction_test-returns
 conjunction_test-returns t c =

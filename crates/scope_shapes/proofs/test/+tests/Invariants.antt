@@ -3,7 +3,7 @@ use Rattle.xanadu_tree.specs.PlainOf.{plain_test}
 use Rattle.scope_shapes.specs.Expressions as spec
 use Rattle.scope_shapes.specs.NodesOf.{conjunctions_of, negations_of}
 use Rattle.scope_shapes.specs.SitesOf.{globals_of, locals_of}
-use Rattle.scope_shapes.proofs.test.+test.Given as goal
+use Rattle.scope_shapes.proofs.test.+tests.Given as goal
 
 abbrev pub invariant-any_tests-loop-part : goal.invariant-any_tests-loop-part
 invariant-any_tests-loop-part l =
