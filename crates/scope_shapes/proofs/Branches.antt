@@ -4,7 +4,7 @@ use Rattle.xanadu_tree.specs.declared.stmt.Clause.{Clause}
 use Rattle.xanadu_tree.specs.declared.types.Kind.{Kind}
 use Rattle.xanadu_tree.specs.Plain as core
 use Rattle.xanadu_tree.specs.PlainTree as plain
-use Rattle.scope_shapes.specs.Expressions.{test}
+use Rattle.scope_shapes.specs.Expressions.{expression_test}
 use Rattle.scope_shapes.specs.Faults.{Check, ◌>>=◌}
 use Rattle.scope_shapes.specs.Sites.{Globals, Locals}
 use Rattle.scope_shapes.specs.Statements.{Done, Body, choice, statement, block, branch, clause_or_none}
@@ -17,7 +17,7 @@ module _ (globals : Globals) (given : Kind) (join : Option plain.WrittenClause) 
   behind_no it yes_body n = clause_or_none globals.types join n.1 >>= behind_join it yes_body n.0
 
   pub if-branches : (t : plain.Expression) (on_true : plain.Block) (on_false : plain.Branch) (locals : Locals) (it : core.Test) (yes_body : Body) (behind : Locals) →
-      test globals locals t ≡ Ok it → block globals given on_true locals ≡ Ok (yes_body, behind) →
+      expression_test globals locals t ≡ Ok it → block globals given on_true locals ≡ Ok (yes_body, behind) →
       statement globals given (plain.If t on_true on_false join at) locals ≡ (branch globals given on_false behind >>= behind_no it yes_body)
   unfolding statement
   if-branches t on_true on_false locals it yes_body behind tested done =

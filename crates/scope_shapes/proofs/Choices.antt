@@ -3,7 +3,7 @@ use Rattle.std.proofs.Common.{◌≡◌, ◌∙◌, ℕ, true, List, [], ◌∷�
 use Rattle.xanadu_tree.specs.Plain as core
 use Rattle.xanadu_tree.specs.PlainOf.{to_tests}
 use Rattle.xanadu_tree.specs.PlainTree as plain
-use Rattle.scope_shapes.specs.Expressions.{has_conjunction, has_negation, any_test, all_test, test, any_tests, conjunction_test, all_tests, negation_test}
+use Rattle.scope_shapes.specs.Expressions.{has_conjunction, has_negation, any_test, all_test, expression_test, any_tests, conjunction_test, all_tests, negation_test}
 use Rattle.scope_shapes.specs.Faults.{Check, ◌>>=◌}
 use Rattle.scope_shapes.specs.Sites.{Globals, Locals}
 
@@ -15,8 +15,8 @@ all_of parts = Ok (core.All (to_tests parts))
 
 module _ (globals : Globals) (locals : Locals) where
   pub test-any : (first : plain.Conjunction) (rest : plain.Conjunctions) (at : ℕ) (t : core.Test) → conjunction_test globals locals first ≡ Ok t →
-      has_conjunction rest ≡ true → test globals locals (plain.ExpressionOf first rest at) ≡ (any_tests globals locals rest (t ∷ []) >>= any_of)
-  unfolding test
+      has_conjunction rest ≡ true → expression_test globals locals (plain.ExpressionOf first rest at) ≡ (any_tests globals locals rest (t ∷ []) >>= any_of)
+  unfolding expression_test
   test-any first rest at t is some =
       ap (λ (c : Check core.Test). c >>= λ u. any_test (has_conjunction rest) u (any_tests globals locals rest (u ∷ []))) is
       ∙ ap (λ b. any_test b t (any_tests globals locals rest (t ∷ []))) some

@@ -9,7 +9,7 @@ use Rattle.xanadu_tree.specs.PlainOf.{to_stmts}
 use Rattle.xanadu_tree.specs.PlainTree as plain
 use Rattle.scope_shapes.specs.declared.error.ShapeKind.TheVariants.{Unreachable}
 use Rattle.scope_shapes.specs.Sites.{Globals, Locals, behind_block, without}
-use Rattle.scope_shapes.specs.Expressions.{test}
+use Rattle.scope_shapes.specs.Expressions.{expression_test}
 use Rattle.scope_shapes.specs.Statements.{clause_or_none, Done, assign, called, printed, returned, Body, empty, and_then, choice, loop, statement, branch, block, statements, statement_at}
 use Rattle.scope_shapes.proofs.ShapedLists.{then_ok, ok_same, where_ok, Begins, begins_through}
 use Rattle.scope_shapes.proofs.ShapedExpressions.{Knows, site}
@@ -115,7 +115,7 @@ module _ (globals : Globals) (given : Kind) (knows : Knows globals) where
     statement_is (plain.Print value at) locals point y st e =
         unchanged_is globals given locals point (printed globals locals value) y (λ done. printed_is globals given locals point value done knows st) e
     statement_is (plain.If t on_true on_false join at) locals point y st e =
-        let it = then_ok (test globals locals t) _ y e in
+        let it = then_ok (expression_test globals locals t) _ y e in
         let one = then_ok (block globals given on_true locals) _ y it.second in
         let two = then_ok (branch globals given on_false one.value.1) _ y one.second in
         let c = then_ok (clause_or_none globals.types join two.value.1) _ y two.second in
@@ -141,7 +141,7 @@ module _ (globals : Globals) (given : Kind) (knows : Knows globals) where
           completes = both_ways _ _ _ _ yes_block.completes no_block.completes;
         })
     statement_is (plain.While t head body at) locals point y st e =
-        let it = then_ok (test globals locals t) _ y e in
+        let it = then_ok (expression_test globals locals t) _ y e in
         let c = then_ok (clause_or_none globals.types head locals) _ y it.second in
         let b = then_ok (block globals given body c.value.1) _ y c.second in
         let clause = clause_or_none_is globals given head locals point c.value knows st c.first in

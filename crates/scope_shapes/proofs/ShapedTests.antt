@@ -10,7 +10,7 @@ use Rattle.xanadu_tree.specs.PlainTree as plain
 use Rattle.xanadu_tree.specs.Written.{primary_at, IsSome}
 use Rattle.scope_shapes.specs.Faults.{Check, ◌>>=◌}
 use Rattle.scope_shapes.specs.Sites.{Globals, Locals, Typed, asked}
-use Rattle.scope_shapes.specs.Expressions.{has_conjunction, has_negation, has_comparand, has_addend, has_factor, has_index, leaf, any_test, all_test, comparison, sum, product, postfix, test, any_tests, conjunction_test, all_tests, negation_test, comparison_test, sum_test, product_test, unary_test, postfix_test, primary_test}
+use Rattle.scope_shapes.specs.Expressions.{has_conjunction, has_negation, has_comparand, has_addend, has_factor, has_index, leaf, any_test, all_test, comparison, sum, product, postfix, expression_test, any_tests, conjunction_test, all_tests, negation_test, comparison_test, sum_test, product_test, unary_test, postfix_test, primary_test}
 use Rattle.scope_shapes.proofs.ShapedLists.{then_ok, ok_same}
 use Rattle.scope_shapes.proofs.ShapedKinds.{asked_is}
 use Rattle.scope_shapes.proofs.ShapedExpressions.{Knows, site, Sees, Has}
@@ -87,9 +87,9 @@ not_is set visible m y is e =
 
 module _ (globals : Globals) (locals : Locals) (kinds : List Kind) (given : Kind) (visible : List ℕ) (knows : Knows globals) (sees : Sees globals.packings locals kinds visible) where
   mutual
-    unfolding test
+    unfolding expression_test
 
-    pub test_is : (x : plain.Expression) (y : core.Test) → test globals locals x ≡ Ok y → IsTest (site globals kinds given) visible y
+    pub test_is : (x : plain.Expression) (y : core.Test) → expression_test globals locals x ≡ Ok y → IsTest (site globals kinds given) visible y
     test_is (plain.ExpressionOf first rest at) y e =
         let s = then_ok (conjunction_test globals locals first) (λ t. any_test (has_conjunction rest) t (any_tests globals locals rest (t ∷ []))) y e in
         let is = conjunction_test_is first s.value s.first in

@@ -224,8 +224,8 @@ module _ (globals : Globals) (locals : Locals) where
   -- ---- tests
 
   unfoldable mutual
-    pub test : plain.Expression → Check core.Test
-    test (plain.ExpressionOf first rest at) = do
+    pub expression_test : plain.Expression → Check core.Test
+    expression_test (plain.ExpressionOf first rest at) = do
       t ← conjunction_test first
       any_test (has_conjunction rest) t (any_tests rest (t ∷ []))
 
@@ -273,5 +273,5 @@ module _ (globals : Globals) (locals : Locals) where
     postfix_test (plain.PostfixOf p indices at) = cond (has_index indices) (leaf at (postfix (plain.PostfixOf p indices at))) (primary_test p)
 
     pub primary_test : plain.Primary → Check core.Test
-    primary_test (plain.Group e at) = test e
+    primary_test (plain.Group e at) = expression_test e
     primary_test p = leaf (primary_at p) (primary p)

@@ -12,7 +12,7 @@ use Rattle.xanadu_tree.specs.PlainOf.{to_stmts}
 use Rattle.xanadu_tree.specs.PlainTree as plain
 use Rattle.xanadu_tree.specs.Written.{expression_at, type_at}
 use Rattle.scope_shapes.specs.declared.error.ShapeKind.TheVariants.{NamedTwice, OtherKind, Unreachable}
-use Rattle.scope_shapes.specs.Expressions.{expression, indexed, primary, test}
+use Rattle.scope_shapes.specs.Expressions.{expression, indexed, primary, expression_test}
 use Rattle.scope_shapes.specs.Faults.{Check, fault, ◌>>=◌}
 use Rattle.scope_shapes.specs.Kinds.{kind_of, same_kind, kind_at, parts_of}
 use Rattle.scope_shapes.specs.Names.{meaning, or_unknown, Types}
@@ -181,13 +181,13 @@ module _ (globals : Globals) (given : Kind) where
     statement (plain.Do f arguments) locals = unchanged locals (called globals locals f arguments)
     statement (plain.Print value at) locals = unchanged locals (printed globals locals value)
     statement (plain.If t on_true on_false join at) locals = do
-      it ← test globals locals t
+      it ← expression_test globals locals t
       (yes_body, behind_yes) ← block on_true locals
       (no_body, behind_no) ← branch on_false behind_yes
       (c, more) ← clause_or_none globals.types join behind_no
       Ok (choice it yes_body no_body c at, more)
     statement (plain.While t head body at) locals = do
-      it ← test globals locals t
+      it ← expression_test globals locals t
       (c, inside) ← clause_or_none globals.types head locals
       (turn, more) ← block body inside
       Ok (loop it c turn at, more)

@@ -27,7 +27,7 @@ fn test_in<'a>(
     locals: &Locals<'a>,
     e: &Expression,
 ) -> Result<Test, ShapeError>
-    ensures { Gives plain_test result (expressions.test (globals_of globals.now) (locals_of locals.now) (plain_expression e.now)) }
+    ensures { Gives plain_test result (expressions.expression_test (globals_of globals.now) (locals_of locals.now) (plain_expression e.now)) }
 {
     test(
         e,

@@ -30,9 +30,9 @@ fn leaf(typed: Typed, at: u32) -> Result<Test, ShapeError>
 }
 
 #[cycle(tests)]
-#[tactic(auto, using(xanadu_tree::proofs::TreeEquations::plain_nodes), unfolding(crate::specs::Expressions::test))]
+#[tactic(auto, using(xanadu_tree::proofs::TreeEquations::plain_nodes), unfolding(crate::specs::Expressions::expression_test))]
 pub fn test(e: &Expression, site: &Site<'_, '_>) -> Result<Test, ShapeError>
-    ensures { Gives plain_test result (spec.test (globals_of site.now.globals.now) (locals_of site.now.locals.now) (plain_expression e.now)) }
+    ensures { Gives plain_test result (spec.expression_test (globals_of site.now.globals.now) (locals_of site.now.locals.now) (plain_expression e.now)) }
 {
     let first = conjunction_test(&e.first, site)?;
     if !has_conjunction(&e.rest) {

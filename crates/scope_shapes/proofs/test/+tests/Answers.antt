@@ -51,7 +51,7 @@ test-returns t c =
     let some : spec.has_conjunction (conjunctions_of node.rest.items) ≡ true = search rules in
     let first : spec.conjunction_test g l (plain_conjunction node.first) ≡ Ok (plain_test c.in_ok-first.first) = c.in_ok-first.ensures in
     let more : spec.any_tests g l (conjunctions_of node.rest.items) (plain_test c.in_ok-first.first ∷ []) ≡ Ok (map plain_test c.in_ok-any_tests.field-0.items) = search rules in
-    ap (λ n. spec.test g l n) (plain_expression-out c.args.e.now)
+    ap (λ n. spec.expression_test g l n) (plain_expression-out c.args.e.now)
     ∙ test-any g l (plain_conjunction node.first) (conjunctions_of node.rest.items) node.at (plain_test c.in_ok-first.first) first some
     ∙ then-ok (spec.any_tests g l (conjunctions_of node.rest.items) (plain_test c.in_ok-first.first ∷ [])) any_of (map plain_test c.in_ok-any_tests.field-0.items) more
     ∙ ap Ok (sym c.any.ensures)
@@ -65,9 +65,9 @@ test-returns-in_err-any_tests t c =
     let first : spec.conjunction_test g l (plain_conjunction node.first) ≡ Ok (plain_test c.in_ok-first.first) = c.in_ok-first.ensures in
     let all : Check (List core.Test) = spec.any_tests g l (conjunctions_of node.rest.items) (plain_test c.in_ok-first.first ∷ []) in
     let failed : Fails c.in_err-any_tests.field-0.0 all = search rules in
-    let same : spec.test g l (plain_expression c.args.e.now) ≡ (all >>= any_of) =
-    ap (λ n. spec.test g l n) (plain_expression-out c.args.e.now)
+    let same : spec.expression_test g l (plain_expression c.args.e.now) ≡ (all >>= any_of) =
+    ap (λ n. spec.expression_test g l n) (plain_expression-out c.args.e.now)
     ∙ test-any g l (plain_conjunction node.first) (conjunctions_of node.rest.items) node.at (plain_test c.in_ok-first.first) first some in
-    let key : Fails c.in_err-any_tests.field-0.0 (spec.test g l (plain_expression c.args.e.now)) =
+    let key : Fails c.in_err-any_tests.field-0.0 (spec.expression_test g l (plain_expression c.args.e.now)) =
     subst (λ w. Fails c.in_err-any_tests.field-0.0 w) (sym same) (fails-then c.in_err-any_tests.field-0.0 all any_of failed) in
     search (rules, key)
