@@ -1,0 +1,6 @@
+pub mod Answers
+pub mod Types
+pub mod PlaceTypes
+pub mod Tables
+pub mod Matching
+pub mod Unpacking

@@ -1,0 +1,29 @@
+//! State types: what is known of the words in places, and when one state type meets another.
+//!
+//! A [`Ty`] says what a word is: a number with the value of a linear form, a truth value, an array of a length, or a tuple. Index
+//! variables stand for numbers that are not written out. A [`StateType`] gives types to places, over a context of such variables, and
+//! a closed type or a signature quantifies its own. The crate finds the values of quantified variables and the rows that a target
+//! demands, and promises that where these rows are entailed the target holds. It stands on `index_sorts`, `xan_lin` and `xan_seq`.
+#![tactic(auto)]
+
+mod closed;
+mod copying;
+mod edge;
+mod error;
+mod matching;
+mod pairs;
+mod place_map;
+mod rows;
+mod state;
+mod table;
+mod types;
+mod values;
+
+pub use crate::closed::{Packed, Signature};
+pub use crate::edge::meets;
+pub use crate::error::StateError;
+pub use crate::matching::{Found, match_params, match_types, pack_goals};
+pub use crate::place_map::Places;
+pub use crate::state::StateType;
+pub use crate::table::TypeTable;
+pub use crate::types::{Ty, TypeId, subst_type};
