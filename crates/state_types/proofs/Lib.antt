@@ -1,1 +1,4 @@
 pub mod PlaceSearch
+pub mod ShiftFacts
+pub mod TableFacts
+pub mod ValueLists

@@ -1,9 +1,12 @@
 -- The search for a place among rising ones, and what a write at its place makes.
-use Rattle.std.proofs.Common.{◌≡◌, ◌≢◌, ◌==◌, ℕ, zero, suc, ◌<◌, ◌≤◌, List, [], ◌∷◌, ◌++◌, take, drop, length, get_or, Bool, true, false, nat_lt, cond, Option, Some, None, refl, sym, ◌∙◌, ap, subst, arith}
+use Rattle.std.proofs.Common.{◌≡◌, ◌≢◌, ◌==◌, ℕ, zero, suc, ◌<◌, ◌≤◌, List, [], ◌∷◌, ◌++◌, take, drop, set, length, get_or, Bool, true, false, nat_lt, cond, Option, Some, None, refl, sym, ◌∙◌, ap, subst, arith}
+use Rattle.std.specs.List.{insert}
 use Rattle.std.specs.List.Sorted.{IsPartitionedBy, IsPartitionPoint}
+use Rattle.std.specs.Prelude.{Result, Ok, Err, OnOk, OnErr}
+use Rattle.xan_lin.specs.declared.term.Memory.{Memory}
 use Rattle.state_types.specs.PlaceTypes.{PlacesRise, type_at, with_type}
 use Rattle.state_types.specs.declared.types.Ty.{Ty}
-use Rattle.xan_lin.proofs.Booleans.{less, equal, unequal, is_less, is_not_less}
+use Rattle.xan_lin.proofs.Booleans.{less, not_less, equal, unequal, is_less, is_not_less}
 use Rattle.xan_lin.proofs.Sums.{Lt, Gt, Eq, order}
 
 -- what the search tests
@@ -84,24 +87,24 @@ PlacesRise-with low place ty [] le r = (le, tt)
 PlacesRise-with low place ty (x ∷ xs) le r =
     let P : List (ℕ × Ty) → Type 0 = λ ys. PlacesRise low ys in
     elim (order place x.0) [
-      | Lt h ↦ subst P (sym (with-behind place ty x xs h)) (le, h, r.1)
+      | Lt h ↦ subst P (sym (with-behind place ty x xs h)) (le, (h, r.1))
       | Gt h ↦ subst P (sym (with-before place ty x xs h)) (r.0, PlacesRise-with (suc x.0) place ty xs h r.1)
       | Eq h ↦ subst P (sym (with-here place ty x xs (sym h))) (le, subst (λ n. PlacesRise (suc n) xs) (sym h) r.1)
     ]
 
 -- all that stands before the place that was found
-abbrev pub AllBefore : ℕ → ℕ → List (ℕ × Ty) → Type 0
+abbrev AllBefore : ℕ → ℕ → List (ℕ × Ty) → Type 0
 AllBefore place at xs = (k : ℕ) (d : ℕ × Ty) → k < length xs → k < at → (get_or xs k d).0 < place
 
-pub with-set : (place at : ℕ) (ty : Ty) (xs : List (ℕ × Ty)) (d : ℕ × Ty) → AllBefore place at xs → at < length xs → (get_or xs at d).0 ≡ place
-    → with_type place ty xs ≡ take at xs ++ (place, ty) ∷ drop (suc at) xs
+with-set : (place at : ℕ) (ty : Ty) (xs : List (ℕ × Ty)) (d : ℕ × Ty) → AllBefore place at xs → at < length xs → (get_or xs at d).0 ≡ place
+    → with_type place ty xs ≡ set xs at (place, ty)
 with-set place at ty [] d before l e = absurd (omega arith)
 with-set place zero ty (x ∷ xs) d before l e = with-here place ty x xs e
 with-set place (suc at) ty (x ∷ xs) d before l e =
     with-before place ty x xs (before 0 d (omega arith) (omega arith))
     ∙ ap (λ ys. x ∷ ys) (with-set place at ty xs d (λ k c m n. before (suc k) c (omega arith) (omega arith)) (omega arith) e)
 
-pub with-insert : (place at : ℕ) (ty : Ty) (xs : List (ℕ × Ty)) → AllBefore place at xs → at ≤ length xs
+with-insert : (place at : ℕ) (ty : Ty) (xs : List (ℕ × Ty)) → AllBefore place at xs → at ≤ length xs
     → ((d : ℕ × Ty) → at < length xs → place < (get_or xs at d).0) → with_type place ty xs ≡ take at xs ++ (place, ty) ∷ drop at xs
 with-insert place zero ty [] before l behind = refl
 with-insert place (suc at) ty [] before l behind = absurd (omega arith)
@@ -109,3 +112,36 @@ with-insert place zero ty (x ∷ xs) before l behind = with-behind place ty x xs
 with-insert place (suc at) ty (x ∷ xs) before l behind =
     with-before place ty x xs (before 0 x (omega arith) (omega arith))
     ∙ ap (λ ys. x ∷ ys) (with-insert place at ty xs (λ k c m n. before (suc k) c (omega arith) (omega arith)) (omega arith) (λ d m. behind d (omega arith)))
+
+-- where the search ends
+abbrev pub IsPoint : ℕ → ℕ → List (ℕ × Ty) → Type 0
+IsPoint place at xs = IsPartitionPoint (λ e. nat_lt e.0 place ≡ true) (λ e. nat_lt e.0 place ≡ false) xs at
+
+all_before : (place at : ℕ) (xs : List (ℕ × Ty)) → IsPoint place at xs → AllBefore place at xs
+all_before place at xs point k d l h = is_less (get_or xs k d).0 place (point.0 k d (omega arith) h)
+
+-- the entry of the place is written over
+pub set_is : (place at : ℕ) (ty : Ty) (xs seen again : List (ℕ × Ty)) → seen ≡ xs → again ≡ xs → IsPoint place at seen
+    → ((d : ℕ × Ty) → (at < length again) × ((get_or again at d).0 ≡ place)) → set xs at (place, ty) ≡ with_type place ty xs
+set_is place at ty xs seen again e f point found =
+    let here : IsPoint place at xs = subst (λ ys. IsPoint place at ys) e point in
+    let there = subst (λ (ys : List (ℕ × Ty)). (d : ℕ × Ty) → (at < length ys) × ((get_or ys at d).0 ≡ place)) f found in
+    let d : ℕ × Ty = (place, ty) in
+    sym (with-set place at ty xs d (all_before place at xs here) (there d).0 (there d).1)
+
+-- or it comes between the others
+pub insert_is : (place at : ℕ) (ty : Ty) (xs seen again : List (ℕ × Ty)) → seen ≡ xs → again ≡ xs → IsPoint place at seen → at ≤ length seen
+    → ((d : ℕ × Ty) → at < length again → (get_or again at d).0 ≢ place) → insert xs at (place, ty) ≡ with_type place ty xs
+insert_is place at ty xs seen again e f point l absent =
+    let here : IsPoint place at xs = subst (λ ys. IsPoint place at ys) e point in
+    let there = subst (λ (ys : List (ℕ × Ty)). (d : ℕ × Ty) → at < length ys → (get_or ys at d).0 ≢ place) f absent in
+    sym (with-insert place at ty xs (all_before place at xs here) (omega (arith, ap length e))
+        (λ d m. (let from : place ≤ (get_or xs at d).0 = is_not_less (get_or xs at d).0 place (here.1 at d (omega arith) m) in
+            let other : (get_or xs at d).0 ≢ place = there d m in
+            omega arith)))
+
+-- places still rise, whether there was memory or not
+pub PlacesRise-set : (place : ℕ) (ty : Ty) (old new : List (ℕ × Ty)) (answer : Result (Unit {0}) Memory) → OnOk answer (new ≡ with_type place ty old)
+    → OnErr answer (new ≡ old) → PlacesRise 0 old → PlacesRise 0 new
+PlacesRise-set place ty old new (Ok x) set unchanged r = subst (λ (ys : List (ℕ × Ty)). PlacesRise 0 ys) (sym set) (PlacesRise-with 0 place ty old (omega arith) r)
+PlacesRise-set place ty old new (Err e) set unchanged r = subst (λ (ys : List (ℕ × Ty)). PlacesRise 0 ys) (sym unchanged) r

@@ -37,10 +37,11 @@ unpacked ctx packed = do
   more ← with_rows (with_variables ctx packed.vars) (map (shifted first) packed.rows)
   Ok (more, map (shifted_type first) packed.parts)
 
--- what a refusal may leave: the context with the variables and some first rows
-pub record HasBegun (ctx : IndexContext) (packed : Packed) (left : IndexContext) : Type 0 where
+-- some first ones of the rows were added
+pub record HasSome (ctx : IndexContext) (rows : List Linear) (left : IndexContext) : Type 0 where
   pub count : ℕ
-  pub is : with_rows (with_variables ctx packed.vars) (take count (map (shifted ctx.vars) packed.rows)) ≡ Ok left
+  pub is : with_rows ctx (take count rows) ≡ Ok left
 
+-- what a refusal may leave: the context, or the context with the variables and some first rows
 abbrev pub IsLeft : IndexContext → Packed → IndexContext → Type 0
-IsLeft ctx packed left = (left ≡ ctx) ⊎ HasBegun ctx packed left
+IsLeft ctx packed left = (left ≡ ctx) ⊎ HasSome (with_variables ctx packed.vars) (map (shifted ctx.vars) packed.rows) left

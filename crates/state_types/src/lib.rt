@@ -17,6 +17,7 @@ mod rows;
 mod state;
 mod table;
 mod types;
+mod unpacking;
 mod values;
 
 pub use crate::closed::{Packed, Signature};
@@ -27,3 +28,6 @@ pub use crate::place_map::Places;
 pub use crate::state::StateType;
 pub use crate::table::TypeTable;
 pub use crate::types::{Ty, TypeId, subst_type};
+pub use crate::unpacking::unpack;
+pub use index_sorts::{Context, ContextError};
+pub use xan_lin::Memory;

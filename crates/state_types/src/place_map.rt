@@ -1,6 +1,6 @@
 //! The types of places.
 
-ghost use Rattle.std.specs.Prelude.{◌≡◌, ◌≢◌, ℕ, ◌<◌, true, false, nat_lt, [], length, OnOk, OnErr, IfOk, IsTrue, option_map};
+ghost use Rattle.std.specs.Prelude.{◌≡◌, ◌≢◌, ℕ, ◌<◌, ◌≤◌, true, false, nat_lt, [], length, OnOk, OnErr, IfOk, option_map};
 ghost use Rattle.std.specs.List.{slice_index_or as get_or};
 ghost use Rattle.std.specs.List.Sorted.{IsPartitionPoint};
 ghost use Rattle.state_types.specs.PlaceTypes as spec;
@@ -36,7 +36,8 @@ impl Model for Places {
 // How many of the entries are before the place.
 fn count_before(entries: &[(u16, Ty)], place: u16) -> usize
     requires { spec.PlacesRise 0 entries.now }
-    ensures { IsPartitionPoint (λ e. nat_lt e.0 place ≡ true) (λ e. nat_lt e.0 place ≡ false) entries.now result }
+    ensures point { IsPartitionPoint (λ e. nat_lt e.0 place ≡ true) (λ e. nat_lt e.0 place ≡ false) entries.now result }
+    ensures within { result ≤ length entries.now }
 {
     entries.partition_point(|entry| entry.0 < place)
 }
@@ -55,7 +56,7 @@ fn type_among(entries: &[(u16, Ty)], place: u16) -> Option<&Ty>
 
 // Whether the entry at this position is that of the place.
 fn is_at(entries: &[(u16, Ty)], at: usize, place: u16) -> bool
-    ensures found { IsTrue result → (d : ℕ × spec.Ty) → (at < length entries.now) × ((get_or entries.now at d).0 ≡ place) }
+    ensures found { result ≡ true → (d : ℕ × spec.Ty) → (at < length entries.now) × ((get_or entries.now at d).0 ≡ place) }
     ensures absent { result ≡ false → (d : ℕ × spec.Ty) → at < length entries.now → (get_or entries.now at d).0 ≢ place }
 {
     match entries.get(at) {
