@@ -1,4 +1,9 @@
+pub mod Edges
+pub mod Examples
+pub mod Pairing
 pub mod PlaceSearch
 pub mod ShiftFacts
+pub mod Soundness
 pub mod TableFacts
+pub mod Thens
 pub mod ValueLists

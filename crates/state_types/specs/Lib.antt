@@ -4,3 +4,5 @@ pub mod PlaceTypes
 pub mod Tables
 pub mod Matching
 pub mod Unpacking
+pub mod Words
+pub mod Sound

@@ -66,14 +66,16 @@ values_for first (suc count) pairs = (first, value_for first pairs) ∷ values_f
 
 -- ---- the demanded rows, behind those made so far
 
--- two forms are equal where both differences are at least 0; equal ones demand nothing
+-- two forms are equal where both differences are at least 0
+abbrev pub both_differences : Linear → Linear → List Linear → Check (List Linear)
+both_differences wanted present made = do
+  more ← within_bounds (difference_of wanted present)
+  less ← within_bounds (difference_of present wanted)
+  Ok (made ++ more ∷ [] ++ less ∷ [])
+
+-- the same form demands nothing
 unfoldable pub differences : Linear → Linear → List Linear → Check (List Linear)
-differences wanted present made =
-    if same_form wanted present then Ok made
-    else (do
-      more ← within_bounds (difference_of wanted present)
-      less ← within_bounds (difference_of present wanted)
-      Ok (made ++ more ∷ [] ++ less ∷ []))
+differences wanted present made = if same_form wanted present then Ok made else both_differences wanted present made
 
 -- the wanted index, in which the variables are replaced, is the present one
 unfoldable pub index_rows : List (ℕ × Linear) → ℕ → Option Linear → Option Linear → List Linear → Check (List Linear)
