@@ -6,4 +6,5 @@ pub mod ShiftFacts
 pub mod Soundness
 pub mod TableFacts
 pub mod Thens
+pub mod Unpacked
 pub mod ValueLists

@@ -8,7 +8,6 @@ ghost use Rattle.xan_lin.specs.Linear.{Linear, NamesBelow};
 ghost use Rattle.xan_lin.specs.Subst.{given_values};
 ghost use Rattle.state_types.specs.Matching.{matched, meeting};
 ghost use Rattle.state_types.specs.Sound.{Carries, IsMatched, IsMet, NamesOwn, Fits, IsUnpacked};
-ghost use Rattle.state_types.specs.Tables.{IsClosed};
 ghost use Rattle.state_types.specs.Types.{TypeBelow};
 ghost use Rattle.state_types.specs.Unpacking.{unpacked};
 ghost use Rattle.state_types.specs.Words.{Headers, HasType};
@@ -46,4 +45,13 @@ pub fn typed_words_carry_over()
 pub fn met_states_hold()
     ensures { (headers : Headers) (word : ℕ → ℤ) (assignment given : List ℤ) (state target : StateType) → IsMet assignment given state target
         → Fits headers word assignment state → Fits headers word given target }
+{}
+
+/// Unpacking goes with an assignment that has the values of the type's variables behind those of the context's: under it the rows of the
+/// context hold, a word that has a part's type under the type's own values has the part's new type, and present types fit as before.
+pub fn unpacking_is_sound()
+    ensures { (ctx more : IndexContext) (packed : Packed) (parts : List Ty) (assignment own : List ℤ) → unpacked ctx packed ≡ Ok (more, parts)
+        → All (NamesBelow ctx.vars) ctx.rows → length assignment ≡ ctx.vars → AllHold assignment ctx.rows
+        → length own ≡ packed.vars → AllHold own packed.rows
+        → IsUnpacked assignment (assignment ++ own) own ctx more packed.parts parts }
 {}

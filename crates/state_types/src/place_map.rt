@@ -105,6 +105,22 @@ impl Places {
         }
     }
 
+    /// The places of these entries, which rise. It takes no memory.
+    pub fn from_vec(entries: Vec<(u16, Ty)>) -> Places
+        requires { spec.PlacesRise 0 entries.items }
+        ensures { result ≡ entries.items }
+    {
+        Places { entries }
+    }
+
+    /// The `Vec` of the entries.
+    pub fn into_vec(self) -> Vec<(u16, Ty)>
+        ensures { result.items ≡ self }
+    {
+        let Places { entries } = self;
+        entries
+    }
+
     /// The places with their types, by rising place.
     pub fn entries(&self) -> &[(u16, Ty)]
         ensures entries { result.now ≡ self.now }
