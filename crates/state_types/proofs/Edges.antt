@@ -120,6 +120,6 @@ met_fits headers word assignment given state target met fits = record {
   one_each = met.one_each;
   hold = met.hold;
   typed = λ k d h.
-    let f = met.fit k d h in
-    f.carries.carries headers (word _) (type_at-all (λ e. HasType headers assignment (word e.0) e.1) _ state.places f.ty fits.typed f.there);
+      let f = met.fit k d h in
+      f.carries.carries headers (word _) (type_at-all (λ e. HasType headers assignment (word e.0) e.1) _ state.places f.ty fits.typed f.there);
 }

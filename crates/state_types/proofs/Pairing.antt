@@ -64,9 +64,10 @@ unfolding zip_pairs
 zip_carries assignment given [] [] same all = tt
 zip_carries assignment given [] (present ∷ others) same all = absurd (omega arith)
 zip_carries assignment given (wanted ∷ later) [] same all = absurd (omega arith)
-zip_carries assignment given (wanted ∷ later) (present ∷ others) same all =
-    (All-head (PairCarries assignment given) (paired wanted present) (zip_pairs later others) all,
-        zip_carries assignment given later others (omega arith) (All-tail (PairCarries assignment given) (paired wanted present) (zip_pairs later others) all))
+zip_carries assignment given (wanted ∷ later) (present ∷ others) same all = (
+  All-head (PairCarries assignment given) (paired wanted present) (zip_pairs later others) all,
+  zip_carries assignment given later others (omega arith) (All-tail (PairCarries assignment given) (paired wanted present) (zip_pairs later others) all),
+)
 
 -- ---- assignments
 

@@ -136,9 +136,9 @@ insert_is place at ty xs seen again e f point l absent =
     let here : IsPoint place at xs = subst (λ ys. IsPoint place at ys) e point in
     let there = subst (λ (ys : List (ℕ × Ty)). (d : ℕ × Ty) → at < length ys → (get_or ys at d).0 ≢ place) f absent in
     sym (with-insert place at ty xs (all_before place at xs here) (omega (arith, ap length e))
-        (λ d m. (let from : place ≤ (get_or xs at d).0 = is_not_less (get_or xs at d).0 place (here.1 at d (omega arith) m) in
-            let other : (get_or xs at d).0 ≢ place = there d m in
-            omega arith)))
+    (λ d m. (let from : place ≤ (get_or xs at d).0 = is_not_less (get_or xs at d).0 place (here.1 at d (omega arith) m) in
+    let other : (get_or xs at d).0 ≢ place = there d m in
+    omega arith)))
 
 -- places still rise, whether there was memory or not
 pub PlacesRise-set : (place : ℕ) (ty : Ty) (old new : List (ℕ × Ty)) (answer : Result (Unit {0}) Memory) → OnOk answer (new ≡ with_type place ty old)

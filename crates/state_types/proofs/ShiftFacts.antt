@@ -44,7 +44,7 @@ pub shifted_ok : (first : ℕ) (form : Linear) (read made seen : List Term) (i :
     → given ≡ constant → constant ≡ form.constant → answer ≡ form_of seen given → answer ≡ Ok (shifted first form)
 shifted_ok first form read made seen i given constant answer same r few small is h e c d a =
     let all : seen ≡ map (shifted_term first) form.terms =
-        e ∙ is ∙ ap (λ us. map (shifted_term first) us) (take_all i form.terms (subst (λ (us : List Term). length us ≤ i) same h)) in
+    e ∙ is ∙ ap (λ us. map (shifted_term first) us) (take_all i form.terms (subst (λ (us : List Term). length us ≤ i) same h)) in
     a ∙ ap (λ n. form_of seen n) (c ∙ d)
     ∙ shifted_fits first form seen all (subst (λ us. IsRising 0 us) same r) (subst (λ (us : List Term). length us ≤ 16) same few) small
 
@@ -101,7 +101,7 @@ left_now : (f : Linear → Linear) (rows : List Linear) (i : ℕ) (row given : L
 left_now f rows i row given h is e =
     sym (take-append-drop i (map f rows))
     ∙ ap (λ rs. take i (map f rows) ++ rs)
-        (drop-map f i rows ∙ ap (λ rs. map f rs) (drop-cons rows i row h) ∙ ap (λ r. f r ∷ map f (drop (suc i) rows)) (sym is) ∙ ap (λ r. r ∷ map f (drop (suc i) rows)) (sym e))
+    (drop-map f i rows ∙ ap (λ rs. map f rs) (drop-cons rows i row h) ∙ ap (λ r. f r ∷ map f (drop (suc i) rows)) (sym is) ∙ ap (λ r. r ∷ map f (drop (suc i) rows)) (sym e))
 
 rows_fail : (f : Linear → Linear) (ctx now : IndexContext) (rows : List Linear) (i : ℕ) (row given : Linear) (error : ContextError) → i < length rows → row ≡ get_or rows i row
     → given ≡ f row → with_rows ctx (take i (map f rows)) ≡ Ok now → with_row now given ≡ Err error → with_rows ctx (map f rows) ≡ Err error
@@ -149,7 +149,7 @@ pub IsLeft-all : (ctx fresh left : IndexContext) (packed seen : Packed) (first :
 IsLeft-all ctx fresh left packed seen first same from is e =
     let here : first ≡ ctx.vars = first_is (nat_lt 1024 (ctx.vars + seen.vars)) ctx.vars first from in
     let rows : with_rows (with_variables ctx seen.vars) (map (shifted ctx.vars) seen.rows) ≡ Ok left =
-        ap (λ n. with_rows (with_variables ctx seen.vars) (map (shifted n) seen.rows)) (sym here) ∙ ap (λ m. with_rows m (map (shifted first) seen.rows)) (sym is) ∙ e in
+    ap (λ n. with_rows (with_variables ctx seen.vars) (map (shifted n) seen.rows)) (sym here) ∙ ap (λ m. with_rows m (map (shifted first) seen.rows)) (sym is) ∙ e in
     subst (λ p. IsLeft ctx p left) same (inr (HasSome-all (with_variables ctx seen.vars) left (map (shifted ctx.vars) seen.rows) rows))
 
 pub OnErr-any : {T E P : Type 0} (answer : Result T E) → P → OnErr answer P

@@ -51,9 +51,10 @@ both_equal assignment context made all g f e entailed holds =
     let both = subst (λ rows. All (Entails context) rows) (sym parts) entailed in
     let front = all_front (Entails context) (made ++ s.value ∷ []) (t.value ∷ []) both in
     let more = all_last (Entails context) made s.value front in
-    let less = all_last (Entails context) (made ++ s.value ∷ []) t.value both in
-    (both_hold assignment g f s.value t.value (within_ok (difference_of g f) s.value s.first) (within_ok (difference_of f g) t.value t.first) (more.follows assignment holds) (less.follows assignment holds),
-        all_front (Entails context) made (s.value ∷ []) front)
+    let less = all_last (Entails context) (made ++ s.value ∷ []) t.value both in (
+      both_hold assignment g f s.value t.value (within_ok (difference_of g f) s.value s.first) (within_ok (difference_of f g) t.value t.first) (more.follows assignment holds) (less.follows assignment holds),
+      all_front (Entails context) made (s.value ∷ []) front,
+    )
 
 by_test : (test : Truth) (assignment : List ℤ) (context made all : List Linear) (g f : Linear) → same_form g f ≡ test
     → cond test (let r : Check (List Linear) = Ok made in r) (both_differences g f made) ≡ Ok all → All (Entails context) all → AllHold assignment context
@@ -85,7 +86,7 @@ carry_int assignment given e f same = record { carries = λ headers word h. h �
 carry_array : (assignment given : List ℤ) (p q : ℕ) (e f : Linear) → p ≡ q → value_of assignment f ≡ value_of given e → Carries assignment given (Array q f) (Array p e)
 carry_array assignment given p q e f number same = record {
   carries = λ headers word h.
-    subst (λ n. IsBlock headers word (2 * n) (value_of given e)) (sym number) (subst (λ v. IsBlock headers word (2 * q) v) same h);
+      subst (λ n. IsBlock headers word (2 * n) (value_of given e)) (sym number) (subst (λ v. IsBlock headers word (2 * q) v) same h);
 }
 
 carry_named : (assignment given : List ℤ) (p q : ℕ) → p ≡ q → Carries assignment given (Named q) (Named p)

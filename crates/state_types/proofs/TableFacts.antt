@@ -5,7 +5,6 @@ use Rattle.std.specs.Prelude.{IfSome, is_some}
 use Rattle.xan_lin.proofs.Booleans.{is_less}
 use denote.Ref.{Bor}
 use Rattle.std.proofs.lemmas.List.Elements.{All-append, All-cons}
-
 use Rattle.state_types.specs.Tables.{IsClosed, IsTable}
 use Rattle.state_types.specs.declared.closed.Packed.{Packed}
 

@@ -1,9 +1,12 @@
 //! Types that quantify index variables of their own.
 
-ghost use Rattle.std.specs.Prelude.{◌≡◌, IfOk};
+ghost use Rattle.std.specs.Prelude.{◌≡◌, ◌↔◌, All, IfOk, IsTrue};
+ghost use Rattle.xan_lin.specs.Linear.{NamesBelow};
+ghost use Rattle.state_types.specs.Tables.{IsClosed};
+ghost use Rattle.state_types.specs.Types.{TypeBelow};
 
 use crate::copying::{copied_forms, copied_types};
-use crate::types::Ty;
+use crate::types::{Ty, form_names_below};
 use std::alloc::Global;
 use xan_lin::{Form, Memory};
 use xan_seq::Seq;
@@ -40,7 +43,29 @@ pub struct Signature {
     pub result: Ty,
 }
 
+// Whether the rows name only variables less than `vars`.
+fn rows_name_below(rows: &[Form], vars: u32) -> bool
+    ensures { IsTrue result ↔ All (NamesBelow vars) rows.now }
+{
+    rows.iter().all(|row| form_names_below(row, vars))
+}
+
+// The same of types.
+fn types_name_below(types: &[Ty], vars: u32) -> bool
+    ensures { IsTrue result ↔ All (TypeBelow vars) types.now }
+{
+    types.iter().all(|ty| ty.names_below(vars))
+}
+
 impl Packed {
+    /// Whether its rows and its parts name only its own variables.
+    pub fn is_closed(&self) -> bool
+        ensures { IsTrue result ↔ IsClosed self.now }
+    {
+        let vars = self.vars;
+        rows_name_below(self.rows.as_slice(), vars) && types_name_below(self.parts.as_slice(), vars)
+    }
+
     /// An equal closed type.
     pub fn copy(&self, alloc: Global) -> Result<Packed, Memory>
         ensures { IfOk result (λ packed. packed ≡ self.now) }

@@ -29,5 +29,11 @@ pub fn meets(
     ensures { Gives (λ rows. rows.items) result (spec.meeting state.now target.now values.now) }
 {
     let pairs = pairs_at(alloc, &state.places, target.places.entries())?;
-    demanded(alloc, values, state.ctx.vars(), pairs.as_slice(), target.ctx.rows())
+    demanded(
+        alloc,
+        values,
+        state.ctx.vars(),
+        pairs.as_slice(),
+        target.ctx.rows(),
+    )
 }

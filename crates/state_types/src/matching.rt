@@ -70,15 +70,18 @@ pub fn match_types(
 
 /// The match of a signature's parameters with as many types: the values of its variables, and the rows that a call demands. The refusals
 /// are those of [`match_types`].
-pub fn match_params(
-    alloc: Global,
-    sig: &Signature,
-    actual: &[Ty],
-) -> Result<Found, StateError>
+pub fn match_params(alloc: Global, sig: &Signature, actual: &[Ty]) -> Result<Found, StateError>
     requires { length sig.now.params ≡ length actual.now }
     ensures { Gives (λ found. found) result (spec.matched 0 sig.now.vars sig.now.rows sig.now.params actual.now) }
 {
-    match_types(alloc, 0, sig.vars, sig.rows.as_slice(), sig.params.as_slice(), actual)
+    match_types(
+        alloc,
+        0,
+        sig.vars,
+        sig.rows.as_slice(),
+        sig.params.as_slice(),
+        actual,
+    )
 }
 
 /// The match of a closed type's parts with as many types: the values of its variables, and the rows that a constructor or a store
@@ -95,5 +98,12 @@ pub fn pack_goals(
         Gives (λ found. found) result (spec.matched 0 packed.vars packed.rows packed.parts actual.now) }
 {
     let packed = table.at(id);
-    match_types(alloc, 0, packed.vars, packed.rows.as_slice(), packed.parts.as_slice(), actual)
+    match_types(
+        alloc,
+        0,
+        packed.vars,
+        packed.rows.as_slice(),
+        packed.parts.as_slice(),
+        actual,
+    )
 }

@@ -14,11 +14,7 @@ use xan_lin::Form;
 
 // Puts both differences behind the others, unless the forms are equal.
 #[tactic(auto, unfolding(crate::specs::Matching::differences))]
-fn push_differences(
-    made: &mut Vec<Form>,
-    wanted: &Form,
-    present: &Form,
-) -> Result<(), StateError>
+fn push_differences(made: &mut Vec<Form>, wanted: &Form, present: &Form) -> Result<(), StateError>
     ensures { Gives (λ _. made.new.items) result (spec.differences wanted.now present.now made.old.items) }
 {
     if are_same(wanted, present) {

@@ -1,6 +1,7 @@
 //! Types of words.
 
-ghost use Rattle.std.specs.Prelude.{◌≡◌, option_map};
+ghost use Rattle.std.specs.Prelude.{◌≡◌, ◌↔◌, IsTrue, option_map};
+ghost use Rattle.xan_lin.specs.Linear.{NamesBelow};
 ghost use Rattle.xan_lin.specs.Subst.{VariablesRise};
 ghost use Rattle.state_types.specs.Types as spec;
 
@@ -35,6 +36,16 @@ impl Ty {
         }
     }
 
+    /// Whether its index names only variables less than `vars`.
+    pub fn names_below(&self, vars: u32) -> bool
+        ensures { IsTrue result ↔ spec.TypeBelow vars self.now }
+    {
+        match self {
+            Ty::Int(index) | Ty::Array(_, index) => form_names_below(index, vars),
+            Ty::Bool | Ty::Named(_) => true,
+        }
+    }
+
     // The value of an int, or the length of an array.
     pub(crate) fn index(&self) -> Option<&Form>
         ensures { option_map (λ form. form.now) result ≡ spec.index_of self.now }
@@ -57,6 +68,13 @@ impl Ty {
             _ => false,
         }
     }
+}
+
+// Whether the form names only variables less than `vars`.
+pub(crate) fn form_names_below(form: &Form, vars: u32) -> bool
+    ensures { IsTrue result ↔ NamesBelow vars form.now }
+{
+    form.terms().iter().all(|term| term.var < vars)
 }
 
 /// The type in which all listed variables are replaced at once, each by the form that stands beside it. A variable that is not listed

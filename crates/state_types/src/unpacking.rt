@@ -68,12 +68,7 @@ fn shifted_parts(
 }
 
 // Adds the rows of the type.
-fn add_rows(
-    ctx: &mut Context,
-    rows: &[Form],
-    first: u32,
-    vars: u32,
-) -> Result<(), ContextError>
+fn add_rows(ctx: &mut Context, rows: &[Form], first: u32, vars: u32) -> Result<(), ContextError>
     requires named { All (NamesBelow vars) rows.now }
     requires room { first + vars ≤ 1024 }
     requires fresh { ctx.old.vars ≡ first + vars }

@@ -19,7 +19,7 @@ returns-in_err-add-clause-refused c =
     let h = c.in_err-add.ensures {u = tt} in
     rw (p.1, p.2)
     (refused_rows (shifted c.args.first) c.args.ctx.now c.loop-row.ctx c.args.rows.now c.loop-row.row-index c.row-item.result c.shifted.result c.in_err-add.field-0.0 c.loop-row-test.true
-        c.row-item.is c.shifted.ensures c.loop-row.invariant.0 h.refused)
+    c.row-item.is c.shifted.ensures c.loop-row.invariant.0 h.refused)
 
 pub returns-in_err-add-clause-never : goal.returns-in_err-add-clause-never
 returns-in_err-add-clause-never c =
@@ -29,6 +29,8 @@ returns-in_err-add-clause-never c =
 
 pub loop-row-preserved : goal.loop-row-preserved
 loop-row-preserved c =
-    let h = c.in_ok-add.ensures {u = tt} in
-    (rows_more (shifted c.args.first) c.args.ctx.now c.loop-row.ctx c.add.new.self c.args.rows.now c.loop-row.row-index c.row-item.result c.shifted.result c.loop-row-test.true c.row-item.is
-        c.shifted.ensures c.loop-row.invariant.0 h.added, c.add.ensures.variables ∙ c.loop-row.invariant.1)
+    let h = c.in_ok-add.ensures {u = tt} in (
+      rows_more (shifted c.args.first) c.args.ctx.now c.loop-row.ctx c.add.new.self c.args.rows.now c.loop-row.row-index c.row-item.result c.shifted.result c.loop-row-test.true c.row-item.is
+          c.shifted.ensures c.loop-row.invariant.0 h.added,
+      c.add.ensures.variables ∙ c.loop-row.invariant.1,
+    )
