@@ -1,5 +1,6 @@
 pub mod Edges
 pub mod Examples
+pub mod Refusing
 pub mod Pairing
 pub mod PlaceSearch
 pub mod ShiftFacts

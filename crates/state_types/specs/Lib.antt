@@ -6,3 +6,4 @@ pub mod Matching
 pub mod Unpacking
 pub mod Words
 pub mod Sound
+pub mod Refusals
