@@ -22,10 +22,10 @@ use Rattle.state_types.proofs.Thens.{then_ok, ok_same}
 -- ---- pairs
 
 -- the pair of a wanted place and its present type
-record IsPairAt (present : List (ℕ × Ty)) (wanted : ℕ × Ty) (pair : Pair) : Type 0 where
-  there : type_at wanted.0 present ≡ Some pair.present
-  same : same_kind pair.wanted pair.present ≡ true
-  is : wanted.1 ≡ pair.wanted
+pub record IsPairAt (present : List (ℕ × Ty)) (wanted : ℕ × Ty) (pair : Pair) : Type 0 where
+  pub there : type_at wanted.0 present ≡ Some pair.present
+  pub same : same_kind pair.wanted pair.present ≡ true
+  pub is : wanted.1 ≡ pair.wanted
 
 by_found : (present : List (ℕ × Ty)) (wanted : ℕ × Ty) (pair : Pair) (found : Option Ty) → type_at wanted.0 present ≡ found → pair_found wanted found ≡ Ok pair
     → IsPairAt present wanted pair
@@ -35,7 +35,7 @@ by_found present wanted pair (Some ty) e is =
     let here : IsPairAt present wanted (paired wanted.1 ty) = record { there = e; same = p.0; is = refl } in
     subst (λ q. IsPairAt present wanted q) p.1 here
 
-pair_at_is : (present : List (ℕ × Ty)) (wanted : ℕ × Ty) (pair : Pair) → pair_at present wanted ≡ Ok pair → IsPairAt present wanted pair
+pub pair_at_is : (present : List (ℕ × Ty)) (wanted : ℕ × Ty) (pair : Pair) → pair_at present wanted ≡ Ok pair → IsPairAt present wanted pair
 unfolding pair_at
 pair_at_is present wanted pair e = by_found present wanted pair (type_at wanted.0 present) refl e
 
@@ -109,7 +109,7 @@ found_by true P place x xs ty same here later e =
 found_by false P place x xs ty same here later e = later e
 
 -- what holds of each place with its type holds of one that is found
-type_at-all : (P : ℕ × Ty → Type 0) (place : ℕ) (xs : List (ℕ × Ty)) (ty : Ty) → All P xs → type_at place xs ≡ Some ty → P (place, ty)
+pub type_at-all : (P : ℕ × Ty → Type 0) (place : ℕ) (xs : List (ℕ × Ty)) (ty : Ty) → All P xs → type_at place xs ≡ Some ty → P (place, ty)
 type_at-all P place [] ty all e = absurd (let bad : ⊥ = cc in bad)
 type_at-all P place (x ∷ xs) ty all e =
     found_by (x.0 == place) P place x xs ty refl (All-head P x xs all) (type_at-all P place xs ty (All-tail P x xs all)) e

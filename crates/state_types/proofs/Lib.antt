@@ -1,8 +1,10 @@
 pub mod Edges
 pub mod Examples
 pub mod Refusing
+pub mod FormNames
 pub mod Pairing
 pub mod PlaceSearch
+pub mod RowNames
 pub mod ShiftFacts
 pub mod Soundness
 pub mod TableFacts

@@ -139,7 +139,7 @@ never_variables ctx row error (inr e) v = (let rows = row-error ctx row error e 
 HasSome-all : (ctx left : IndexContext) (rows : List Linear) → with_rows ctx rows ≡ Ok left → HasSome ctx rows left
 HasSome-all ctx left rows e = record { count = length rows; is = ap (λ rs. with_rows ctx rs) (take_all (length rows) rows (omega arith)) ∙ e }
 
-first_is : (many : Bool) (n first : ℕ) → cond many (let r : Result ℕ ContextError = Err Variables in r) (Ok n) ≡ Ok first → first ≡ n
+pub first_is : (many : Bool) (n first : ℕ) → cond many (let r : Result ℕ ContextError = Err Variables in r) (Ok n) ≡ Ok first → first ≡ n
 first_is true n first e = cc
 first_is false n first e = cc
 

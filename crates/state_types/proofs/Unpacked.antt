@@ -19,6 +19,7 @@ use Rattle.state_types.specs.Words.{IsBlock}
 use Rattle.state_types.specs.declared.closed.Packed.{Packed}
 use Rattle.state_types.specs.declared.types.Ty.{Ty}
 use Rattle.state_types.specs.declared.types.Ty.TheVariants.{Int, Bool, Array, Named}
+use Rattle.state_types.proofs.ShiftFacts.{first_is}
 use Rattle.state_types.proofs.Thens.{then_ok, ok_same}
 
 -- ---- values under a longer assignment
@@ -114,16 +115,19 @@ rows_grow values ctx more (row ∷ rows) e before all =
     let later = rows_grow values s.value more rows s.second (g.1 values before (All-head (Holds values) row rows all)) (All-tail (Holds values) row rows all) in
     (later.0 ∙ g.0, later.1)
 
+pub rows-vars : (ctx more : IndexContext) (rows : List Linear) → with_rows ctx rows ≡ Ok more → more.vars ≡ ctx.vars
+unfolding with_rows Grown
+rows-vars ctx more [] e = ap (λ c. c.vars) (sym (ok_same ctx more e))
+rows-vars ctx more (row ∷ rows) e =
+    let s = then_ok (with_row ctx row) (λ m. with_rows m rows) more e in
+    rows-vars s.value more rows s.second ∙ (row_grows ctx row s.value s.first).0
+
 holds-front : (xs ys : List ℤ) (rows : List Linear) → All (NamesBelow (length xs)) rows → AllHold xs rows → AllHold (xs ++ ys) rows
 holds-front xs ys rows named holds = λ k d h. subst (λ n. pos 0 ≤ℤ n) (sym (value-front xs ys (get_or rows k d) (named k d h))) (holds k d h)
 
 holds-behind : (xs ys : List ℤ) (rows : List Linear) → AllHold ys rows → AllHold (xs ++ ys) (map (shifted (length xs)) rows)
 holds-behind xs ys rows holds =
     All-map (Holds (xs ++ ys)) (shifted (length xs)) rows (λ k d h. subst (λ n. pos 0 ≤ℤ n) (sym (value-behind xs ys (get_or rows k d))) (holds k d h))
-
-first_is : (many : Truth) (n first : ℕ) → cond many (let r : Result ℕ ContextError = Err Variables in r) (Ok n) ≡ Ok first → first ≡ n
-first_is true n first e = cc
-first_is false n first e = cc
 
 -- ---- unpacking
 

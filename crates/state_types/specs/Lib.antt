@@ -7,3 +7,4 @@ pub mod Unpacking
 pub mod Words
 pub mod Sound
 pub mod Refusals
+pub mod Naming

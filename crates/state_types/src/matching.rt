@@ -1,6 +1,6 @@
 //! Matches of wanted types with present ones.
 
-ghost use Rattle.std.specs.Prelude.{◌≡◌, ◌<◌, ◌-◌, length};
+ghost use Rattle.std.specs.Prelude.{◌≡◌, ◌<◌, length, IfOk};
 ghost use Rattle.xan_lin.specs.Subst.{VariablesRise};
 ghost use Rattle.state_types.specs.Answers.{Gives};
 ghost use Rattle.state_types.specs.Matching as spec;
@@ -36,7 +36,8 @@ fn found_with(
     rows: &[Form],
 ) -> Result<Found, StateError>
     requires { VariablesRise 0 values.items }
-    ensures { Gives (λ found. found) result (spec.found_with values.items below pairs.now rows.now) }
+    ensures found { Gives (λ found. found) result (spec.found_with values.items below pairs.now rows.now) }
+    ensures rising { IfOk result (λ found. VariablesRise 0 found.values) }
 {
     let all = demanded(alloc, values.as_slice(), below, pairs, rows)?;
     Ok(Found {
@@ -61,7 +62,8 @@ pub fn match_types(
     actual: &[Ty],
 ) -> Result<Found, StateError>
     requires { length wanted.now ≡ length actual.now }
-    ensures { Gives (λ found. found) result (spec.matched below vars rows.now wanted.now actual.now) }
+    ensures found { Gives (λ found. found) result (spec.matched below vars rows.now wanted.now actual.now) }
+    ensures rising { IfOk result (λ found. VariablesRise 0 found.values) }
 {
     let pairs = pairs_of(alloc, wanted, actual)?;
     let values = values_for(alloc, below, vars, pairs.as_slice())?;
@@ -72,7 +74,8 @@ pub fn match_types(
 /// are those of [`match_types`].
 pub fn match_params(alloc: Global, sig: &Signature, actual: &[Ty]) -> Result<Found, StateError>
     requires { length sig.now.params ≡ length actual.now }
-    ensures { Gives (λ found. found) result (spec.matched 0 sig.now.vars sig.now.rows sig.now.params actual.now) }
+    ensures found { Gives (λ found. found) result (spec.matched 0 sig.now.vars sig.now.rows sig.now.params actual.now) }
+    ensures rising { IfOk result (λ found. VariablesRise 0 found.values) }
 {
     match_types(
         alloc,
@@ -94,8 +97,9 @@ pub fn pack_goals(
 ) -> Result<Found, StateError>
     requires there { id < length table.now }
     requires parts { length (closed_at table.now id).parts ≡ length actual.now }
-    ensures { let packed = closed_at table.now id in
+    ensures found { let packed = closed_at table.now id in
         Gives (λ found. found) result (spec.matched 0 packed.vars packed.rows packed.parts actual.now) }
+    ensures rising { IfOk result (λ found. VariablesRise 0 found.values) }
 {
     let packed = table.at(id);
     match_types(
