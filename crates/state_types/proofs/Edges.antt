@@ -1,5 +1,5 @@
 -- What an edge gives.
-use Rattle.std.proofs.Common.{◌≡◌, ℕ, ◌==◌, ℤ, List, [], ◌∷◌, ◌++◌, append_assoc, Bool as Truth, true, false, cond, Option, Some, None, Ok, refl, sym, ◌∙◌, ap, subst, arith}
+use Rattle.std.proofs.Common.{◌≡◌, ℕ, ◌==◌, ℤ, List, [], ◌∷◌, ◌++◌, append_assoc, Bool as Truth, true, false, cond, Option, Some, None, Ok, refl, sym, ◌∙◌, subst}
 use Rattle.std.specs.List.{All, AllZip}
 use Rattle.std.proofs.lemmas.Bool.Decides.{Decides-eqb}
 use Rattle.std.proofs.lemmas.List.{append-nil}
@@ -7,7 +7,7 @@ use Rattle.std.proofs.lemmas.List.Elements.{All-nil, All-cons, All-head, All-tai
 use Rattle.index_sorts.specs.Entails.{Entails, AllHold}
 use Rattle.xan_lin.specs.Linear.{Linear}
 use Rattle.xan_lin.specs.Subst.{given_values}
-use Rattle.state_types.specs.Matching.{pair_of, pair_found, pair_at, pairs_at, demanded, meeting}
+use Rattle.state_types.specs.Matching.{pair_found, pair_at, pairs_at, demanded, meeting}
 use Rattle.state_types.specs.PlaceTypes.{type_at}
 use Rattle.state_types.specs.Sound.{Carries, PlaceFits, IsMet, NamesOwn, Fits}
 use Rattle.state_types.specs.Types.{same_kind, TypeBelow}

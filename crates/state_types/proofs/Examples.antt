@@ -1,22 +1,18 @@
 -- The definitions at small examples, worked out by hand.
-use Rattle.std.proofs.Common.{◌≡◌, ◌∙◌, ℕ, ℤ, pos, negsuc, List, [], ◌∷◌, Option, Some, None, Ok, Err, refl, ap}
+use Rattle.std.proofs.Common.{◌≡◌, ℕ, ℤ, pos, negsuc, List, [], ◌∷◌, Some, None, Ok, Err, refl}
 use Rattle.xan_lin.specs.Linear.{Linear, variable_form, sized}
 use Rattle.xan_lin.specs.Subst.{replacement, replaced_terms, replaced_constant, zero_form}
 use Rattle.xan_lin.specs.Terms.{plus_term, sum_terms}
-use Rattle.xan_lin.specs.declared.term.Term.{Term}
-use Rattle.index_sorts.specs.Context.{IndexContext}
-use Rattle.index_sorts.specs.Known.{with_row, knows}
 use Rattle.index_sorts.specs.declared.error.ContextError.TheVariants.{Variables}
 use Rattle.state_types.specs.Answers.{Check}
 use Rattle.state_types.specs.Matching.{pair_of, pairs_of, pair_at, pairs_at, value_for, values_for, differences, index_rows, type_rows, own_rows, demanded, found_with, matched, meeting}
 use Rattle.state_types.specs.Tables.{int_cell}
 use Rattle.state_types.specs.Unpacking.{with_rows, unpacked}
-use Rattle.state_types.specs.Words.{Header, header_from, header_at}
+use Rattle.state_types.specs.Words.{header_from, header_at}
 use Rattle.state_types.specs.declared.error.StateError.TheVariants.{Kind}
 use Rattle.state_types.specs.declared.matching.Found.{Found}
 use Rattle.state_types.specs.declared.state.StateType.{StateType}
-use Rattle.state_types.specs.declared.types.Ty.{Ty}
-use Rattle.state_types.specs.declared.types.Ty.TheVariants.{Int, Bool, Array, Named}
+use Rattle.state_types.specs.declared.types.Ty.TheVariants.{Int, Bool, Array}
 
 -- so many times variable v, and a number
 times : ℕ → ℤ → ℤ → Linear

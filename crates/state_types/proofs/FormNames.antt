@@ -1,9 +1,9 @@
 -- Sums, differences and replaced forms name only variables of their parts.
-use Rattle.std.proofs.Common.{◌≡◌, ℕ, zero, suc, ◌<◌, ◌≤◌, ◌==◌, ℤ, pos, negsuc, ◌+ℤ◌, List, [], ◌∷◌, ◌++◌, map, Bool as Truth, true, false, cond, nat_lt, Option, Some, None, Ok, refl, sym, ap, subst, arith}
+use Rattle.std.proofs.Common.{◌≡◌, ℕ, zero, suc, ◌<◌, ◌≤◌, ◌==◌, ℤ, pos, negsuc, ◌+ℤ◌, List, [], ◌∷◌, Bool as Truth, true, false, cond, nat_lt, Option, Some, None, Ok, refl, subst, arith}
 use Rattle.std.specs.List.{All}
 use Rattle.std.proofs.lemmas.List.Elements.{All-nil, All-cons, All-head, All-tail, All-append, All-map}
 use Rattle.xan_lin.specs.Linear.{Linear, NamesBelow, variable_form, difference_of}
-use Rattle.xan_lin.specs.Subst.{listed, listed_or_own, replacement, multiple, multiples, replaced_terms, replaced_constant, subst_of, zero_form}
+use Rattle.xan_lin.specs.Subst.{listed, listed_or_own, replacement, multiple, multiples, replaced_terms, subst_of, zero_form}
 use Rattle.xan_lin.specs.Terms.{with_multiple, plus_term, sum_terms, negated_term, negated_terms}
 use Rattle.xan_lin.specs.declared.term.Term.{Term}
 use Rattle.xan_lin.proofs.Booleans.{is_less}
@@ -33,7 +33,7 @@ below-plus n t (u ∷ us) h all =
     let here = All-head P u us all in
     chosen n (nat_lt t.var u.var) (with_multiple t.var t.coef (u ∷ us)) _ (below-multiple n t.var t.coef (u ∷ us) h all)
     (chosen n (nat_lt u.var t.var) (u ∷ plus_term t us) (with_multiple u.var (t.coef +ℤ u.coef) us) (All-cons P u (plus_term t us) here (below-plus n t us h later))
-        (below-multiple n u.var (t.coef +ℤ u.coef) us here later))
+    (below-multiple n u.var (t.coef +ℤ u.coef) us here later))
 
 below-sum : (n : ℕ) (ts us : List Term) → Below n ts → Below n us → Below n (sum_terms ts us)
 unfolding sum_terms

@@ -10,8 +10,7 @@ use Rattle.state_types.specs.Matching.{pair_of, pairs_of, pair_found, pair_at, p
 use Rattle.state_types.specs.PlaceTypes.{type_at}
 use Rattle.state_types.specs.Refusals.{FirstUnlike, FirstAbsent, is_kind_of, is_there}
 use Rattle.state_types.specs.Types.{index_of, same_kind}
-use Rattle.state_types.specs.declared.error.StateError.{StateError}
-use Rattle.state_types.specs.declared.error.StateError.TheVariants.{Kind, Large, Memory}
+use Rattle.state_types.specs.declared.error.StateError.TheVariants.{Kind}
 use Rattle.state_types.specs.declared.matching.Found.{Found}
 use Rattle.state_types.specs.declared.pairs.Pair.{Pair}
 use Rattle.state_types.specs.declared.state.StateType.{StateType}
@@ -171,8 +170,7 @@ pub match_kinds : (below vars : ℕ) (rows : List Linear) (wanted actual : List 
     → (matched below vars rows wanted actual ≡ Err (Kind number)) ↔ FirstUnlike wanted actual number
 unfolding matched
 match_kinds below vars rows wanted actual number same =
-    let next : List Pair → Check Found = λ pairs. found_with (values_for below (vars - below) pairs) below pairs rows in
-    (
+    let next : List Pair → Check Found = λ pairs. found_with (values_for below (vars - below) pairs) below pairs rows in (
       λ e. (let u = pairs_refused 0 wanted actual [] number (first_refused (pairs_of 0 wanted actual []) next number (λ pairs. found_never (values_for below (vars - below) pairs) below pairs rows) e) in
           subst (λ n. FirstUnlike wanted actual n) (sym (u.is ∙ omega arith)) u.first),
       λ first. ap (λ c. c >>= next) (pairs_unlike 0 number wanted actual [] same first) ∙ ap (λ n. let r : Check Found = Err (Kind n) in r) (let e : 0 + number ≡ number = omega arith in e),
@@ -262,8 +260,7 @@ pub edge_kinds : (state target : StateType) (values : List (ℕ × Linear)) (pla
     → (meeting state target values ≡ Err (Kind place)) ↔ FirstAbsent state.places target.places place
 unfolding meeting
 edge_kinds state target values place =
-    let next : List Pair → Check (List Linear) = λ pairs. demanded values state.ctx.vars pairs target.ctx.rows in
-    (
+    let next : List Pair → Check (List Linear) = λ pairs. demanded values state.ctx.vars pairs target.ctx.rows in (
       λ e. places_refused state.places target.places [] place
           (first_refused (pairs_at state.places target.places []) next place (λ pairs. demanded_never values state.ctx.vars pairs target.ctx.rows) e),
       λ first. ap (λ c. c >>= next) (places_absent state.places target.places first.number place [] first.within first.is first.absent first.before),

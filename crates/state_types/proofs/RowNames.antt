@@ -1,11 +1,11 @@
 -- What a call gives names only present variables.
 use Rattle.std.proofs.Common.{◌≡◌, ℕ, zero, suc, ◌+◌, ◌-◌, ◌≤◌, List, [], ◌∷◌, ◌++◌, map, get_or, Bool as Truth, true, false, cond, nat_lt, Option, Some, None, Ok, refl, sym, ◌∙◌, ap, subst, arith}
-use Rattle.std.specs.List.{All, AllZip}
-use Rattle.std.proofs.lemmas.List.Elements.{All-nil, All-cons, All-head, All-tail, All-append, All-push, All-map, All-weaker}
+use Rattle.std.specs.List.{All}
+use Rattle.std.proofs.lemmas.List.Elements.{All-nil, All-cons, All-head, All-tail, All-push, All-map}
 use Rattle.index_sorts.specs.Context.{IndexContext, fresh_from, with_variables}
 use Rattle.index_sorts.specs.Known.{same_form}
-use Rattle.xan_lin.specs.Linear.{Linear, NamesBelow, variable_form, difference_of}
-use Rattle.xan_lin.specs.Subst.{subst_of, zero_form}
+use Rattle.xan_lin.specs.Linear.{Linear, NamesBelow, difference_of}
+use Rattle.xan_lin.specs.Subst.{subst_of}
 use Rattle.state_types.specs.Answers.{Check, within_bounds}
 use Rattle.state_types.specs.Matching.{pair_of, pairs_of, pair_at, pairs_at, is_alone, index_or_zero, value_for, values_for, both_differences, differences, index_rows, type_rows, own_rows, demanded, found_with, matched, meeting}
 use Rattle.state_types.specs.Naming.{ValuesBelow, FoundBelow, UnpackedBelow}
@@ -20,7 +20,7 @@ use Rattle.state_types.specs.declared.types.Ty.{Ty}
 use Rattle.state_types.specs.declared.types.Ty.TheVariants.{Int, Bool, Array, Named}
 use Rattle.state_types.proofs.Edges.{pair_at_is, type_at-all}
 use Rattle.state_types.proofs.FormNames.{below-difference, below-zero, below-subst, below-more}
-use Rattle.state_types.proofs.Pairing.{paired, pair_is}
+use Rattle.state_types.proofs.Pairing.{pair_is}
 use Rattle.state_types.proofs.ShiftFacts.{NamesBelow-shifted, first_is}
 use Rattle.state_types.proofs.Thens.{then_ok, within_ok, ok_same}
 use Rattle.state_types.proofs.Unpacked.{rows-vars}
@@ -98,8 +98,8 @@ both-below n wanted present made all e h k rows =
     let t = then_ok (within_bounds (difference_of present wanted)) _ all s.second in
     subst (λ rs. RowsBelow n rs) (ok_same _ all t.second)
     (All-push (NamesBelow n) (made ++ s.value ∷ []) t.value
-        (All-push (NamesBelow n) made s.value rows (below-difference n wanted present s.value (within_ok (difference_of wanted present) s.value s.first) h k))
-        (below-difference n present wanted t.value (within_ok (difference_of present wanted) t.value t.first) k h))
+    (All-push (NamesBelow n) made s.value rows (below-difference n wanted present s.value (within_ok (difference_of wanted present) s.value s.first) h k))
+    (below-difference n present wanted t.value (within_ok (difference_of present wanted) t.value t.first) k h))
 
 differ_by : (test : Truth) (n : ℕ) (wanted present : Linear) (made all : List Linear)
     → cond test (let r : Check (List Linear) = Ok made in r) (both_differences wanted present made) ≡ Ok all → NamesBelow n wanted → NamesBelow n present → RowsBelow n made → RowsBelow n all

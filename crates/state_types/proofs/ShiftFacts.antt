@@ -1,9 +1,9 @@
 -- Forms over later variables, and rows that are added in order.
-use Rattle.std.proofs.Common.{◌≡◌, ℕ, zero, suc, ◌+◌, ◌<◌, ◌≤◌, ℤ, List, [], ◌∷◌, ◌++◌, take, drop, drop-cons, map, length, get_or, ◌&&◌, Bool, true, false, cond, nat_lt, nat_le, ◌⊎◌, inl, inr, Result, Ok, Err, refl, sym, ◌∙◌, ap, subst, arith}
+use Rattle.std.proofs.Common.{◌≡◌, ℕ, suc, ◌+◌, ◌<◌, ◌≤◌, ℤ, List, [], ◌∷◌, ◌++◌, take, drop, drop-cons, map, length, get_or, ◌&&◌, Bool, true, false, cond, nat_lt, nat_le, ◌⊎◌, inl, inr, Result, Ok, Err, refl, sym, ◌∙◌, ap, subst, arith}
 use Rattle.std.specs.List.{All}
 use Rattle.std.proofs.lemmas.List.{length-map, map_more, take-map, drop-map, take_all, take-append-drop}
 use Rattle.std.proofs.lemmas.List.Elements.{All-map}
-use Rattle.xan_lin.specs.Terms.{IsRising, sum_terms}
+use Rattle.xan_lin.specs.Terms.{IsRising}
 use Rattle.xan_lin.specs.Linear.{Linear, NamesBelow, is_within, all_within, are_within, sized, form_of}
 use Rattle.xan_lin.specs.declared.term.Term.{Term}
 use Rattle.xan_lin.specs.declared.term.TooLarge.{TooLarge}

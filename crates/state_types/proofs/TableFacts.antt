@@ -1,6 +1,5 @@
 -- What is kept of each type of a table.
-use Rattle.std.proofs.Common.{◌≡◌, ℕ, ◌<◌, ◌≤◌, List, [], ◌∷◌, ◌++◌, length, get_or, true, nat_lt, Option, Some, None, sym, subst, length-append, arith}
-use Rattle.std.specs.List.{All}
+use Rattle.std.proofs.Common.{◌≡◌, ℕ, ◌<◌, List, [], ◌∷◌, ◌++◌, length, get_or, true, nat_lt, Option, Some, None, sym, subst, length-append, arith}
 use Rattle.std.specs.Prelude.{IfSome, is_some}
 use Rattle.xan_lin.proofs.Booleans.{is_less}
 use denote.Ref.{Bor}

@@ -1,7 +1,7 @@
 -- What follows where all parts of an answer in turn are there.
-use Rattle.std.proofs.Common.{◌≡◌, Result, Ok, Err, Bool, true, false, cond, refl}
+use Rattle.std.proofs.Common.{◌≡◌, Result, Ok, Err, refl}
 use Rattle.xan_lin.specs.declared.term.TooLarge.{TooLarge}
-use Rattle.state_types.specs.Answers.{Check, ◌>>=◌, within_bounds}
+use Rattle.state_types.specs.Answers.{◌>>=◌, within_bounds}
 
 pub record Then {A B E : Type 0} (m : Result A E) (next : A → Result B E) (y : B) : Type 0 where
   pub value : A

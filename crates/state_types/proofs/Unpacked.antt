@@ -1,18 +1,17 @@
 -- What unpacking gives.
-use Rattle.std.proofs.Common.{◌≡◌, ℕ, zero, suc, ◌+◌, ◌<◌, ◌≤◌, ◌*◌, ℤ, pos, ◌+ℤ◌, ◌*ℤ◌, ◌≤ℤ◌, List, [], ◌∷◌, ◌++◌, map, length, length-append, get_or, Bool as Truth, true, false, cond, nat_le, nat_lt, Result, Ok, Err, refl, sym, ◌∙◌, ap, subst, arith}
+use Rattle.std.proofs.Common.{◌≡◌, ℕ, zero, suc, ◌+◌, ◌<◌, ◌*◌, ℤ, pos, ◌+ℤ◌, ◌*ℤ◌, ◌≤ℤ◌, List, [], ◌∷◌, ◌++◌, map, length, length-append, get_or, Bool as Truth, true, false, cond, nat_le, nat_lt, Result, Ok, Err, refl, sym, ◌∙◌, ap, subst, arith}
 use Rattle.std.specs.List.{All, AllZip}
 use Rattle.std.proofs.lemmas.List.Elements.{All-head, All-tail, All-map, All-push}
 use Rattle.index_sorts.specs.Context.{IndexContext, fresh_from, with_variables}
 use Rattle.index_sorts.specs.Known.{with_row, knows}
 use Rattle.index_sorts.specs.Entails.{AllHold}
 use Rattle.index_sorts.specs.declared.error.ContextError.{ContextError}
-use Rattle.index_sorts.specs.declared.error.ContextError.TheVariants.{Variables, Rows}
+use Rattle.index_sorts.specs.declared.error.ContextError.TheVariants.{Rows}
 use Rattle.xan_lin.specs.Linear.{Linear, NamesBelow}
 use Rattle.xan_lin.specs.Value.{value_at, value_of, value_of_terms, Holds}
 use Rattle.xan_lin.specs.declared.term.Term.{Term}
 use Rattle.xan_lin.proofs.Values.{value-cons, value-none}
 use Rattle.state_types.specs.Sound.{Carries, IsUnpacked}
-use Rattle.state_types.specs.Tables.{IsClosed}
 use Rattle.state_types.specs.Types.{TypeBelow}
 use Rattle.state_types.specs.Unpacking.{shifted_term, shifted, shifted_type, with_rows, unpacked}
 use Rattle.state_types.specs.Words.{IsBlock}

@@ -1,5 +1,5 @@
 -- Answers that are a value or the first refusal, and what the code says of them.
-use Rattle.std.specs.Prelude.{◌≡◌, ◌⊎◌, Result, Ok, Err}
+use Rattle.std.specs.Prelude.{◌≡◌, Result, Ok, Err}
 use Rattle.xan_lin.specs.declared.term.TooLarge.{TooLarge}
 use Rattle.state_types.specs.declared.error.StateError.{StateError}
 use Rattle.state_types.specs.declared.error.StateError.TheVariants.{Kind, Large, Memory}

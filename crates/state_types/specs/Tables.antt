@@ -1,5 +1,5 @@
 -- Closed types, and tables of them.
-use Rattle.std.specs.Prelude.{ℕ, ◌≤◌, pos, false, List, [], ◌∷◌, length, ◌^◌}
+use Rattle.std.specs.Prelude.{ℕ, ◌≤◌, false, List, [], ◌∷◌, length}
 use Rattle.std.specs.List.{All, slice_index_or}
 use Rattle.xan_lin.specs.Linear.{NamesBelow, variable_form}
 use Rattle.state_types.specs.Types.{TypeBelow}

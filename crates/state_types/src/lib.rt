@@ -26,7 +26,12 @@ mod values;
 pub use crate::closed::{Packed, Signature};
 pub use crate::edge::meets;
 pub use crate::error::StateError;
-pub use crate::laws::{absent_places_are_found_first, edges_are_sound, edges_name_present_variables, kinds_are_compared_first, matches_are_sound, matches_name_present_variables, met_states_hold, replaced_types_name_present_variables, typed_words_carry_over, unpacked_types_name_fresh_variables, unpacking_is_sound};
+pub use crate::laws::{
+    absent_places_are_found_first, edges_are_sound, edges_name_present_variables,
+    kinds_are_compared_first, matches_are_sound, matches_name_present_variables, met_states_hold,
+    replaced_types_name_present_variables, typed_words_carry_over,
+    unpacked_types_name_fresh_variables, unpacking_is_sound,
+};
 pub use crate::matching::{Found, match_params, match_types, pack_goals};
 pub use crate::place_map::Places;
 pub use crate::state::StateType;

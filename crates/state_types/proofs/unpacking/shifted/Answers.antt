@@ -1,4 +1,4 @@
-use Rattle.std.proofs.Common.{◌≡◌, rules, arith, w64, FitsSigned, Ok}
+use Rattle.std.proofs.Common.{rules, arith, w64, FitsSigned}
 use Rattle.std.proofs.lemmas.Int.{to_z-of_z}
 use Rattle.state_types.proofs.ShiftFacts.{shifted_ok, same_form}
 use Rattle.state_types.proofs.unpacking.shifted.Goals as goal
