@@ -11,3 +11,4 @@ pub mod TableFacts
 pub mod Thens
 pub mod Unpacked
 pub mod ValueLists
+pub mod Walks

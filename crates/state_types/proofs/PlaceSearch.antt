@@ -1,8 +1,10 @@
 -- The search for a place among rising ones, and what a write at its place makes.
 use Rattle.std.proofs.Common.{◌≡◌, ◌≢◌, ◌==◌, ℕ, zero, suc, ◌<◌, ◌≤◌, List, [], ◌∷◌, ◌++◌, take, drop, set, length, get_or, Bool, true, false, nat_lt, cond, Option, Some, None, refl, sym, ◌∙◌, ap, subst, arith}
-use Rattle.std.specs.List.{insert}
+use Rattle.std.specs.List.{All, insert}
 use Rattle.std.specs.List.Sorted.{IsPartitionedBy, IsPartitionPoint}
 use Rattle.std.specs.Prelude.{Result, Ok, Err, OnOk, OnErr}
+use Rattle.std.proofs.lemmas.Bool.Decides.{Decides-eqb}
+use Rattle.std.proofs.lemmas.List.Elements.{All-nil, All-cons, All-head, All-tail}
 use Rattle.xan_lin.specs.declared.term.Memory.{Memory}
 use Rattle.state_types.specs.PlaceTypes.{PlacesRise, type_at, with_type}
 use Rattle.state_types.specs.declared.types.Ty.{Ty}
@@ -145,3 +147,55 @@ pub PlacesRise-set : (place : ℕ) (ty : Ty) (old new : List (ℕ × Ty)) (answe
     → OnErr answer (new ≡ old) → PlacesRise 0 old → PlacesRise 0 new
 PlacesRise-set place ty old new (Ok x) set unchanged r = subst (λ (ys : List (ℕ × Ty)). PlacesRise 0 ys) (sym set) (PlacesRise-with 0 place ty old (omega arith) r)
 PlacesRise-set place ty old new (Err e) set unchanged r = subst (λ (ys : List (ℕ × Ty)). PlacesRise 0 ys) (sym unchanged) r
+
+-- ---- what a write gives
+
+turn : {A : Type 0} (a b : Bool) (x y z : A) → (a ≡ true → b ≡ true → ⊥) → cond a x (cond b y z) ≡ cond b y (cond a x z)
+turn true true x y z apart = absurd (apart refl refl)
+turn true false x y z apart = refl
+turn false true x y z apart = refl
+turn false false x y z apart = refl
+
+skip : {A : Type 0} (a b : Bool) (x y z : A) → a ≡ b → cond a x z ≡ cond a x (cond b y z)
+skip true true x y z e = refl
+skip true false x y z e = cc
+skip false true x y z e = cc
+skip false false x y z e = refl
+
+both_keys : (m n q : ℕ) → m < n → (m == q) ≡ true → (n == q) ≡ true → ⊥
+both_keys m n q h e f = (let a : m ≡ q = (Decides-eqb m q).0 e in let b : n ≡ q = (Decides-eqb n q).0 f in absurd (omega arith))
+
+-- the written place has the type, and each other one what it had
+pub type-with : (q place : ℕ) (ty : Ty) (xs : List (ℕ × Ty)) → type_at q (with_type place ty xs) ≡ cond (place == q) (Some ty) (type_at q xs)
+type-with q place ty [] = refl
+type-with q place ty (x ∷ xs) =
+    elim (order place x.0) [
+      | Lt h ↦ ap (λ ys. type_at q ys) (with-behind place ty x xs h)
+      | Gt h ↦ ap (λ ys. type_at q ys) (with-before place ty x xs h)
+          ∙ ap (λ o. cond (x.0 == q) (Some x.1) o) (type-with q place ty xs)
+          ∙ turn (x.0 == q) (place == q) (Some x.1) (Some ty) (type_at q xs) (both_keys x.0 place q h)
+      | Eq h ↦ ap (λ ys. type_at q ys) (with-here place ty x xs (sym h)) ∙ skip (place == q) (x.0 == q) (Some ty) (Some x.1) (type_at q xs) (ap (λ n. n == q) h)
+    ]
+
+all_apart : (P : ℕ × Ty → Type 0) (low place : ℕ) (xs : List (ℕ × Ty)) → PlacesRise low xs → place < low → All (λ e. e.0 ≢ place → P e) xs → All P xs
+all_apart P low place xs r h all = λ k d l.
+    all k d l (λ e. (let from : low ≤ (get_or xs k d).0 = at_least low k xs d r l in absurd (omega arith)))
+
+-- what holds of the written place and of each other one holds of all
+pub all_with : (P : ℕ × Ty → Type 0) (low place : ℕ) (ty : Ty) (xs : List (ℕ × Ty)) → PlacesRise low xs → All (λ e. e.0 ≢ place → P e) xs → P (place, ty)
+    → All P (with_type place ty xs)
+all_with P low place ty [] r all here = All-cons P (place, ty) [] here (All-nil P)
+all_with P low place ty (x ∷ xs) r all here =
+    let Q : ℕ × Ty → Type 0 = λ e. e.0 ≢ place → P e in
+    elim (order place x.0) [
+      | Lt h ↦ subst (λ ys. All P ys) (sym (with-behind place ty x xs h)) (All-cons P (place, ty) (x ∷ xs) here (all_apart P x.0 place (x ∷ xs) (omega arith, r.1) h all))
+      | Gt h ↦ subst (λ ys. All P ys) (sym (with-before place ty x xs h))
+          (All-cons P x (with_type place ty xs) (All-head Q x xs all (λ e. absurd (omega arith))) (all_with P (suc x.0) place ty xs r.1 (All-tail Q x xs all) here))
+      | Eq h ↦ subst (λ ys. All P ys) (sym (with-here place ty x xs (sym h))) (All-cons P (place, ty) xs here (all_apart P (suc x.0) place xs r.1 (omega arith) (All-tail Q x xs all)))
+    ]
+
+-- the same of a call, whether there was memory or not
+pub type-after : (place : ℕ) (ty : Ty) (seen old new : List (ℕ × Ty)) (answer : Result (Unit {0}) Memory) → seen ≡ old → OnOk answer (new ≡ with_type place ty seen)
+    → OnOk answer ((other : ℕ) → type_at other new ≡ cond (place == other) (Some ty) (type_at other old))
+type-after place ty seen old new (Ok x) same set = λ other. ap (λ ys. type_at other ys) (set ∙ ap (λ ys. with_type place ty ys) same) ∙ type-with other place ty old
+type-after place ty seen old new (Err e) same set = tt

@@ -66,3 +66,7 @@ HasType headers assignment word (Named p) = (cells : ℤ) × IsBlock headers wor
 -- the same over the words of a store
 abbrev pub WordHas : List ℤ → List ℤ → ℤ → Ty → Type 0
 WordHas words assignment word ty = HasType (header_at words) assignment word ty
+
+-- each header stays where it is
+pub record Keeps (old new : Headers) : Type 0 where
+  pub keeps : (address : ℕ) (header : Header) → old address ≡ Some header → new address ≡ Some header

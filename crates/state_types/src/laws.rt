@@ -1,21 +1,17 @@
 //! What entailed rows give.
 
-ghost use Rattle.std.specs.Prelude.{◌≡◌, ◌↔◌, ℕ, ◌≤◌, ℤ, List, Ok, Err, ◌++◌, length, All};
+ghost use Rattle.std.specs.Prelude.{◌≡◌, ℕ, ℤ, List, Ok, ◌++◌, length, All};
 ghost use Rattle.std.specs.List.{AllZip};
 ghost use Rattle.index_sorts.specs.Context.{IndexContext};
 ghost use Rattle.index_sorts.specs.Entails.{Entails, AllHold};
 ghost use Rattle.xan_lin.specs.Linear.{Linear, NamesBelow};
 ghost use Rattle.xan_lin.specs.Subst.{given_values};
 ghost use Rattle.state_types.specs.Matching.{matched, meeting};
-ghost use Rattle.state_types.specs.Naming.{ValuesBelow, FoundBelow, UnpackedBelow};
-ghost use Rattle.state_types.specs.Refusals.{FirstUnlike, FirstAbsent};
 ghost use Rattle.state_types.specs.Sound.{Carries, IsMatched, IsMet, NamesOwn, Fits, IsUnpacked};
-ghost use Rattle.state_types.specs.Tables.{IsClosed};
-ghost use Rattle.state_types.specs.Types.{TypeBelow, subst_ty};
+ghost use Rattle.state_types.specs.Types.{TypeBelow};
 ghost use Rattle.state_types.specs.Unpacking.{unpacked};
 ghost use Rattle.state_types.specs.Words.{Headers, HasType};
 ghost use Rattle.state_types.specs.declared.closed.Packed.{Packed};
-ghost use Rattle.state_types.specs.declared.error.StateError.TheVariants as state_error;
 ghost use Rattle.state_types.specs.declared.matching.Found.{Found};
 ghost use Rattle.state_types.specs.declared.state.StateType.{StateType};
 ghost use Rattle.state_types.specs.declared.types.Ty.{Ty};
@@ -58,40 +54,4 @@ pub fn unpacking_is_sound()
         → All (NamesBelow ctx.vars) ctx.rows → length assignment ≡ ctx.vars → AllHold assignment ctx.rows
         → length own ≡ packed.vars → AllHold own packed.rows
         → IsUnpacked assignment (assignment ++ own) own ctx more packed.parts parts }
-{}
-
-/// A match is refused by kind exactly where the kinds of the two lists differ, with the first such number.
-pub fn kinds_are_compared_first()
-    ensures { (below vars : ℕ) (rows : List Linear) (wanted actual : List Ty) (number : ℕ) → length wanted ≡ length actual
-        → (matched below vars rows wanted actual ≡ Err (state_error.Kind number)) ↔ FirstUnlike wanted actual number }
-{}
-
-/// An edge is refused by kind exactly where a place of the target has no present type of its kind, with the first such place.
-pub fn absent_places_are_found_first()
-    ensures { (state target : StateType) (values : List (ℕ × Linear)) (place : ℕ)
-        → (meeting state target values ≡ Err (state_error.Kind place)) ↔ FirstAbsent state.places target.places place }
-{}
-
-/// What a match finds names only variables that the present types name, or that stay.
-pub fn matches_name_present_variables()
-    ensures { (below vars present : ℕ) (rows : List Linear) (wanted actual : List Ty) (found : Found)
-        → matched below vars rows wanted actual ≡ Ok found → below ≤ present → All (TypeBelow present) actual → FoundBelow present found }
-{}
-
-/// The rows of an edge name only variables of the present state, where the values and the present types do.
-pub fn edges_name_present_variables()
-    ensures { (state target : StateType) (values : List (ℕ × Linear)) (rows : List Linear) → meeting state target values ≡ Ok rows
-        → ValuesBelow state.ctx.vars values → All (λ e. TypeBelow state.ctx.vars e.1) state.places → All (NamesBelow state.ctx.vars) rows }
-{}
-
-/// A type in which the variables are replaced names only variables that the values name, or that stay.
-pub fn replaced_types_name_present_variables()
-    ensures { (present below : ℕ) (values : List (ℕ × Linear)) (ty given : Ty) → below ≤ present → ValuesBelow present values
-        → subst_ty values below ty ≡ Ok given → TypeBelow present given }
-{}
-
-/// Unpacked parts name only variables of the context with the fresh ones, and other types name them as before.
-pub fn unpacked_types_name_fresh_variables()
-    ensures { (ctx more : IndexContext) (packed : Packed) (parts : List Ty) → unpacked ctx packed ≡ Ok (more, parts) → IsClosed packed
-        → UnpackedBelow ctx more packed parts }
 {}

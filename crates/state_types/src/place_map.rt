@@ -1,6 +1,6 @@
 //! The types of places.
 
-ghost use Rattle.std.specs.Prelude.{◌≡◌, ◌≢◌, ℕ, ◌<◌, ◌≤◌, true, false, nat_lt, [], length, OnOk, OnErr, IfOk, option_map};
+ghost use Rattle.std.specs.Prelude.{◌≡◌, ◌≢◌, ◌==◌, ℕ, ◌<◌, ◌≤◌, Some, if◌then◌else◌, true, false, nat_lt, [], length, OnOk, OnErr, IfOk, option_map};
 ghost use Rattle.std.specs.List.{slice_index_or as get_or};
 ghost use Rattle.std.specs.List.Sorted.{IsPartitionPoint};
 ghost use Rattle.state_types.specs.PlaceTypes as spec;
@@ -139,6 +139,7 @@ impl Places {
     /// Gives the place the type, in place of one that it has. After a refusal nothing has changed.
     pub fn set(&mut self, place: u16, ty: Ty) -> Result<(), Memory>
         ensures set { OnOk result (self.new ≡ spec.with_type place ty self.old) }
+        ensures found { OnOk result ((other : ℕ) → spec.type_at other self.new ≡ (if place == other then Some ty else spec.type_at other self.old)) }
         ensures unchanged { OnErr result (self.new ≡ self.old) }
     {
         set_among(&mut self.entries, place, ty)
