@@ -1,5 +1,5 @@
 -- Headers of a store stay where words are appended and where cells are written, and types of words with them.
-use Rattle.std.proofs.Common.{◌≡◌, ℕ, zero, suc, ◌+◌, ◌<◌, ◌*◌, ℤ, List, [], ◌∷◌, ◌++◌, set, Option, Some, None, refl, sym, ◌∙◌, ap, subst, arith}
+use Rattle.std.proofs.Common.{◌≡◌, ℕ, zero, suc, ◌+◌, ◌<◌, ◌*◌, ℤ, List, [], ◌∷◌, ◌++◌, set, Option, Some, refl, sym, ap, subst, arith}
 use Rattle.xan_lin.specs.Value.{value_of}
 use Rattle.state_types.specs.Words.{Header, Headers, Point, AtBlock, AtLength, AtCell, at_cells, cell_count, header_of, header_from, header_at, IsBlock, HasType, Keeps}
 use Rattle.state_types.specs.declared.types.Ty.{Ty}

@@ -29,13 +29,20 @@ mod values;
 pub use crate::closed::{Packed, Signature};
 pub use crate::edge::meets;
 pub use crate::error::StateError;
-pub use crate::laws::{edges_are_sound, matches_are_sound, met_states_hold, typed_words_carry_over, unpacking_is_sound};
+pub use crate::laws::{
+    edges_are_sound, matches_are_sound, met_states_hold, typed_words_carry_over, unpacking_is_sound,
+};
 pub use crate::matching::{Found, match_params, match_types, pack_goals};
-pub use crate::naming_laws::{edges_name_present_variables, matches_name_present_variables, replaced_types_name_present_variables, unpacked_types_name_fresh_variables};
+pub use crate::naming_laws::{
+    edges_name_present_variables, matches_name_present_variables,
+    replaced_types_name_present_variables, unpacked_types_name_fresh_variables,
+};
 pub use crate::place_map::Places;
 pub use crate::refusal_laws::{absent_places_are_found_first, kinds_are_compared_first};
 pub use crate::state::StateType;
-pub use crate::store_laws::{appended_words_keep_headers, words_keep_their_types, written_cells_keep_headers};
+pub use crate::store_laws::{
+    appended_words_keep_headers, words_keep_their_types, written_cells_keep_headers,
+};
 pub use crate::table::TypeTable;
 pub use crate::types::{Ty, TypeId, subst_type};
 pub use crate::unpacking::unpack;
