@@ -165,29 +165,40 @@ fn nested_answer(
     end(alloc, &nested(alloc, open, close, count)?)
 }
 
+/// Groups of each kind: what opens one, and what closes it.
+const GROUPS: &[(&[u8], &[u8])] = &[
+    (b"-(", b")"),
+    (b"-f(", b")"),
+    (b"-f(1, ", b", 2)"),
+    (b"-T(", b")"),
+    (b"-len(", b")"),
+    (b"-new int[", b"](0)"),
+    (b"-new T[1](", b")"),
+    (b"[b", b"]"),
+    (b"; if (b) { x = a", b"; } x = a"),
+    (b"; if (b) { } else { x = a", b"; } x = a"),
+    (b"; while (b) { x = a", b"; } x = a"),
+];
+
 /// What is put so often into a statement, and closed as often, and the answer.
 const NESTED: &[(&[u8], &[u8], u32, Result<(), ParseError>)] = &[
-    (b"-(", b")", 62, Ok(())),
-    (b"-(", b")", 63, Ok(())),
-    (b"-(", b")", 64, Err(ParseError::Nesting)),
-    (b"[b", b"]", 63, Ok(())),
     (b"[b ", b"]", 63, Err(ParseError::Fault { at: 210 })),
     (b"[b ", b"]", 64, Err(ParseError::Nesting)),
     (b"[0] ", b"", 63, Err(ParseError::Fault { at: 273 })),
     (b"[0] ", b"", 64, Err(ParseError::Nesting)),
-    (b"; if (b) { x = a", b"; } x = a", 63, Ok(())),
-    (
-        b"; if (b) { x = a",
-        b"; } x = a",
-        64,
-        Err(ParseError::Nesting),
-    ),
     (b"] ", b"", 99, Err(ParseError::Fault { at: 21 })),
 ];
 
+/// The body's own bracket is open around all that is put into it.
 #[test]
 fn sixty_four_brackets_may_be_open(rt: HostRuntime) {
+    let alloc = rt.alloc();
+    for (open, close) in GROUPS {
+        assert!(rt; nested_answer(alloc, open, close, 62) == Some(Ok(())));
+        assert!(rt; nested_answer(alloc, open, close, 63) == Some(Ok(())));
+        assert!(rt; nested_answer(alloc, open, close, 64) == Some(Err(ParseError::Nesting)));
+    }
     for (open, close, count, wanted) in NESTED {
-        assert!(rt; nested_answer(rt.alloc(), open, close, *count) == Some(*wanted));
+        assert!(rt; nested_answer(alloc, open, close, *count) == Some(*wanted));
     }
 }
