@@ -1,0 +1,13 @@
+pub mod Edges
+pub mod Examples
+pub mod Refusing
+pub mod FormNames
+pub mod Pairing
+pub mod PlaceSearch
+pub mod RowNames
+pub mod ShiftFacts
+pub mod Soundness
+pub mod TableFacts
+pub mod Thens
+pub mod Unpacked
+pub mod ValueLists

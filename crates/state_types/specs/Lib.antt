@@ -1,0 +1,10 @@
+pub mod Answers
+pub mod Types
+pub mod PlaceTypes
+pub mod Tables
+pub mod Matching
+pub mod Unpacking
+pub mod Words
+pub mod Sound
+pub mod Refusals
+pub mod Naming
