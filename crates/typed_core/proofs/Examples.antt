@@ -140,7 +140,40 @@ of_either : goals_of (elaborated source.either) ≡ Ok []
 unfolding elaborated functions function body_start few_declarations few_parts few_parameters closed_type closed_types signature signatures type_of forms_from types_from named_by named_by_operands named_by_links test_named tests_named statement_named statements_named statement block assigned split stored store done printed matched_result returning all_given meeting after_branches operand operands chained product divisor quotient remainder arithmetic bounds indexed measured allocated constructed returned called negated compared truth_leaf leaf tested all_true all_false changes changes_any renewed stated_types with_types leading first_past joined present index_at values_at entered entered_if still_visible with_fresh all_assumed assuming number all_asked demanding noting_state given tuple_at cell_at opened matching excess_of renamed renamed_type variables_from knows with_row with_rows unpacked subst_ty matched found_with pairs_of pair_of values_for value_for demanded type_rows index_rows differences own_rows sized replacement replaced_terms replaced_constant sum_terms plus_term scaled_terms
 of_either = refl
 
--- 240 variables and no temporary but that of the result
+-- the places and the rows of goals alone
+abbrev rows_at : List GoalAt → List (ℕ × Linear)
+rows_at [] = []
+rows_at (goal ∷ goals) = (goal.at, goal.row) ∷ rows_at goals
+
+abbrev rows_of : Walk Elaboration → Result (List (ℕ × Linear)) Stop
+rows_of (Ok made) = Ok (rows_at made.goals)
+rows_of (Err stop) = Err stop
+
+-- Of a binary search, the middle v4 is within the array; where the branches meet, the bounds are v4 + 1 and v3, or v2 and v4.
+of_search : rows_of (elaborated source.search_of_cells) ≡ Ok (
+    (200, v 4) ∷ (200, row ((pos 1, 0) ∷ (negsuc 0, 4) ∷ []) (negsuc 0))
+    ∷ (239, row ((pos 1, 4) ∷ []) (pos 1)) ∷ (239, row ((pos 1, 3) ∷ (negsuc 0, 4) ∷ []) (negsuc 0))
+    ∷ (239, row ((negsuc 0, 2) ∷ (pos 1, 4) ∷ []) (pos 0)) ∷ (239, row ((pos 1, 0) ∷ (negsuc 0, 4) ∷ []) (pos 0))
+    ∷ [])
+unfolding elaborated functions function body_start few_declarations few_parts few_parameters closed_type closed_types signature signatures type_of forms_from types_from named_by named_by_operands named_by_links test_named tests_named statement_named statements_named statement block assigned split stored store done printed matched_result returning all_given meeting after_branches operand operands chained product divisor quotient remainder arithmetic bounds indexed measured allocated constructed returned called negated compared truth_leaf leaf tested all_true all_false changes changes_any renewed stated_types with_types leading first_past joined present index_at values_at entered entered_if still_visible with_fresh all_assumed assuming number all_asked demanding noting_state given tuple_at cell_at opened matching excess_of renamed renamed_type variables_from knows with_row with_rows unpacked subst_ty matched found_with pairs_of pair_of values_for value_for demanded type_rows index_rows differences own_rows sized replacement replaced_terms replaced_constant sum_terms plus_term scaled_terms
+of_search = refl
+
+-- the second part of a test, and the branch, know that y is at least 1
+of_both : goals_of (elaborated source.both) ≡ Ok []
+unfolding elaborated functions function body_start few_declarations few_parts few_parameters closed_type closed_types signature signatures type_of forms_from types_from named_by named_by_operands named_by_links test_named tests_named statement_named statements_named statement block assigned split stored store done printed matched_result returning all_given meeting after_branches operand operands chained product divisor quotient remainder arithmetic bounds indexed measured allocated constructed returned called negated compared truth_leaf leaf tested all_true all_false changes changes_any renewed stated_types with_types leading first_past joined present index_at values_at entered entered_if still_visible with_fresh all_assumed assuming number all_asked demanding noting_state given tuple_at cell_at opened matching excess_of renamed renamed_type variables_from knows with_row with_rows unpacked subst_ty matched found_with pairs_of pair_of values_for value_for demanded type_rows index_rows differences own_rows sized replacement replaced_terms replaced_constant sum_terms plus_term scaled_terms
+of_both = refl
+
+-- what a clause states past the bounds is the limit at the entry
+of_large_row : elaborated source.large_row ≡ Err (Past limit.Magnitude)
+unfolding elaborated functions function body_start few_declarations few_parts few_parameters closed_type closed_types signature signatures type_of forms_from types_from named_by named_by_operands named_by_links test_named tests_named statement_named statements_named statement block assigned split stored store done printed matched_result returning all_given meeting after_branches operand operands chained product divisor quotient remainder arithmetic bounds indexed measured allocated constructed returned called negated compared truth_leaf leaf tested all_true all_false changes changes_any renewed stated_types with_types leading first_past joined present index_at values_at entered entered_if still_visible with_fresh all_assumed assuming number all_asked demanding noting_state given tuple_at cell_at opened matching excess_of renamed renamed_type variables_from knows with_row with_rows unpacked subst_ty matched found_with pairs_of pair_of values_for value_for demanded type_rows index_rows differences own_rows sized replacement replaced_terms replaced_constant sum_terms plus_term scaled_terms
+of_large_row = refl
+
+-- with the result's own variable there are 1,025
+of_many_indices : elaborated (source.many_indices 1024) ≡ Err (Past limit.Variables)
+unfolding elaborated functions function body_start few_declarations few_parts few_parameters closed_type closed_types signature signatures type_of forms_from types_from named_by named_by_operands named_by_links test_named tests_named statement_named statements_named statement block assigned split stored store done printed matched_result returning all_given meeting after_branches operand operands chained product divisor quotient remainder arithmetic bounds indexed measured allocated constructed returned called negated compared truth_leaf leaf tested all_true all_false changes changes_any renewed stated_types with_types leading first_past joined present index_at values_at entered entered_if still_visible with_fresh all_assumed assuming number all_asked demanding noting_state given tuple_at cell_at opened matching excess_of renamed renamed_type variables_from knows with_row with_rows unpacked subst_ty matched found_with pairs_of pair_of values_for value_for demanded type_rows index_rows differences own_rows sized replacement replaced_terms replaced_constant sum_terms plus_term scaled_terms
+of_many_indices = refl
+
+-- one variable too many
 of_many : elaborated (source.many_variables 241) ≡ Err (Past limit.Places)
 unfolding elaborated functions function body_start few_declarations few_parts few_parameters closed_type closed_types signature signatures type_of forms_from types_from named_by named_by_operands named_by_links test_named tests_named statement_named statements_named statement block assigned split stored store done printed matched_result returning all_given meeting after_branches operand operands chained product divisor quotient remainder arithmetic bounds indexed measured allocated constructed returned called negated compared truth_leaf leaf tested all_true all_false changes changes_any renewed stated_types with_types leading first_past joined present index_at values_at entered entered_if still_visible with_fresh all_assumed assuming number all_asked demanding noting_state given tuple_at cell_at opened matching excess_of renamed renamed_type variables_from knows with_row with_rows unpacked subst_ty matched found_with pairs_of pair_of values_for value_for demanded type_rows index_rows differences own_rows sized replacement replaced_terms replaced_constant sum_terms plus_term scaled_terms
 of_many = refl

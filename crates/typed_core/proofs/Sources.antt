@@ -13,7 +13,7 @@ use Rattle.xanadu_tree.specs.declared.types.Kind.TheVariants as kind
 use Rattle.xanadu_tree.specs.declared.types.Packing.{Packing}
 use Rattle.xanadu_tree.specs.declared.types.Quant.{Quant}
 use Rattle.xanadu_tree.specs.Small.{int_of, free}
-use Rattle.xanadu_tree.specs.Plain.{Program, Fun, Stmts, NoStmt, AStmt, Stmt, Set, Split, Store, Do, Print, If, While, Return, Test, Leaf, Any, Not, Tests, NoTest, ATest, Expr, Int, Bool, Var, Neg, Chain, Compare, Index, Len, Call, Make, New, Exprs, NoExpr, AnExpr, Links, NoLink, ALink}
+use Rattle.xanadu_tree.specs.Plain.{Program, Fun, Stmts, NoStmt, AStmt, Stmt, Set, Split, Store, Do, Print, If, While, Return, Test, Leaf, All, Any, Not, Tests, NoTest, ATest, Expr, Int, Bool, Var, Neg, Chain, Compare, Index, Len, Call, Make, New, Exprs, NoExpr, AnExpr, Links, NoLink, ALink}
 
 -- a form: terms and a constant
 abbrev pub form : List (ℤ × ℕ) → ℤ → Linear
@@ -137,6 +137,59 @@ either = program_of (main_of (free 1) (ty.Bool ∷ int_of 0 ∷ []) (kind.Bool �
     (AStmt (If (Any (ATest (Leaf (Var 0)) (ATest (Not (Leaf (Compare rel.Lt (Int (pos 0)) (Var 1)))) NoTest)))
         (AStmt (Return (Some (Int (pos 1))) 54) NoStmt) NoStmt None 33)
     (AStmt (Return (Some (two op.Div (Int (pos 5)) 75 (Var 1))) 66) NoStmt)))
+
+-- fun main{n: nat}(x: int, a: int[n]): int {
+--   var l = 0;
+--   var h = len(a);
+--   while (l < h) with {p: int, q: int | 0 <= p, p <= q, q <= n} (l: int(p), h: int(q)) {
+--     var m = (l + h) / 2;
+--     var y = a[m];
+--     if (y == x) { return m; }
+--     if (y < x) { l = m + 1; } else { h = m; }
+--     join {p: int, q: int | 0 <= p, p <= q, q <= n} (l: int(p), h: int(q))
+--   }
+--   return -1;
+-- }
+abbrev pub bounds_clause : (first : ℕ) → Clause
+bounds_clause first = record {
+  first = first;
+  quant = assuming 2 (var first ∷ form ((negsuc 0, first) ∷ (pos 1, suc first) ∷ []) (pos 0) ∷ form ((pos 1, 0) ∷ (negsuc 0, suc first) ∷ []) (pos 0) ∷ []);
+  vars = (2, int_of first) ∷ (3, int_of (suc first)) ∷ [];
+}
+
+abbrev pub search_of_cells : Program
+search_of_cells = program_of (main_of (assuming 2 (var 0 ∷ [])) (int_of 1 ∷ array_of 0 ∷ []) (kind.Int ∷ kind.Array 0 ∷ replicate 4 kind.Int)
+    (AStmt (Set 2 (Int (pos 0)))
+    (AStmt (Set 3 (Len (Var 1)))
+    (AStmt (While (Leaf (Compare rel.Lt (Var 2) (Var 3))) (Some (bounds_clause 2))
+        (AStmt (Set 4 (two op.Div (two op.Add (Var 2) 177 (Var 3)) 182 (Int (pos 2))))
+        (AStmt (Set 5 (Index (Var 1) (Var 4) 200))
+        (AStmt (If (Leaf (Compare rel.Eq (Var 5) (Var 0))) (AStmt (Return (Some (Var 4)) 223) NoStmt) NoStmt None 209)
+        (AStmt (If (Leaf (Compare rel.Lt (Var 5) (Var 0)))
+            (AStmt (Set 2 (two op.Add (Var 4) 258 (Int (pos 1)))) NoStmt)
+            (AStmt (Set 3 (Var 4)) NoStmt) (Some (bounds_clause 4)) 239) NoStmt)))) 76)
+    (AStmt (Return (Some (Neg (Int (pos 1)))) 361) NoStmt)))))
+
+-- fun main(x: int, y: int): int { if (0 < y && x % y < 1) { return x / y; } return 0; }
+abbrev pub both : Program
+both = program_of (main_of (free 2) (int_of 0 ∷ int_of 1 ∷ []) (kind.Int ∷ kind.Int ∷ [])
+    (AStmt (If (All (ATest (Leaf (Compare rel.Lt (Int (pos 0)) (Var 1)))
+            (ATest (Leaf (Compare rel.Lt (two op.Mod (Var 0) 47 (Var 1)) (Int (pos 1)))) NoTest)))
+        (AStmt (Return (Some (two op.Div (Var 0) 67 (Var 1))) 58) NoStmt) NoStmt None 32)
+    (AStmt (Return (Some (Int (pos 0))) 74) NoStmt)))
+
+-- a clause whose row k + 4611686018427387904 >= 0 is past the bounds, at a loop that begins with k = 0
+abbrev pub large_row : Program
+large_row = program_of (main_of (free 1) (int_of 0 ∷ []) (kind.Int ∷ kind.Int ∷ [])
+    (AStmt (Set 1 (Int (pos 0)))
+    (AStmt (While (Leaf (Compare rel.Lt (Var 1) (Var 0)))
+        (Some (record { first = 1; quant = assuming 1 (form ((pos 1, 1) ∷ []) (pos 4611686018427387904) ∷ []); vars = (1, int_of 1) ∷ [] }))
+        (AStmt (Set 1 (Var 0)) NoStmt) 36)
+    (AStmt (Return (Some (Var 1)) 140) NoStmt))))
+
+-- a function of so many index variables
+abbrev pub many_indices : ℕ → Program
+many_indices count = program_of (main_of (free count) [] [] (AStmt (Return (Some (Int (pos 0))) 0) NoStmt))
 
 -- `var` so many times, each with the number 0, and then `return 0;`
 abbrev pub declarations : (count first : ℕ) → Stmts

@@ -8,3 +8,4 @@ pub mod Tests
 pub mod Joins
 pub mod Statements
 pub mod Goals
+pub mod Proving

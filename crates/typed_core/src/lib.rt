@@ -6,8 +6,12 @@
 //! types and what matches demand, and on `proof_lines` for lines.
 #![tactic(auto)]
 
+mod elaborated;
 mod goal;
 mod note;
+mod proved;
 
+pub use crate::elaborated::Elaborated;
 pub use crate::goal::GoalAt;
 pub use crate::note::Note;
+pub use crate::proved::Proved;
