@@ -1,9 +1,9 @@
 -- The goals of small sources, worked out by hand.
-use Rattle.std.proofs.Common.{◌≡◌, ℕ, zero, suc, ℤ, pos, negsuc, List, [], ◌∷◌, Result, Ok, Err, refl}
+use Rattle.std.proofs.Common.{◌≡◌, ℕ, ℤ, pos, negsuc, List, [], ◌∷◌, Result, Ok, Err, refl}
 use Rattle.xan_lin.specs.declared.term.Term.{Term}
 use Rattle.typed_core.specs.Goals.{elaborated, functions, function, body_start, Elaboration}
 use Rattle.typed_core.specs.Headers.{few_declarations, few_parts, few_parameters, closed_type, closed_types, signature, signatures}
-use Rattle.typed_core.specs.Forms.{type_of, forms_from, types_from, excess_of, renamed, renamed_type, variables_from, constant_form}
+use Rattle.typed_core.specs.Forms.{type_of, forms_from, types_from, excess_of, renamed, renamed_type, variables_from}
 use Rattle.typed_core.specs.Places.{named_by, named_by_operands, named_by_links, test_named, tests_named, statement_named, statements_named, places_of}
 use Rattle.typed_core.specs.Statements.{statement, block, assigned, split, stored, store, done, printed, matched_result, returning, all_given, meeting, after_branches}
 use Rattle.typed_core.specs.Operands.{operand, operands, chained, product, divisor, quotient, remainder, arithmetic, bounds, indexed, measured, allocated, constructed, returned, called, negated}
@@ -17,7 +17,6 @@ use Rattle.state_types.specs.Matching.{matched, found_with, pairs_of, pair_of, v
 use Rattle.xan_lin.specs.Linear.{Linear, variable_form, sized}
 use Rattle.xan_lin.specs.Subst.{replacement, replaced_terms, replaced_constant, zero_form}
 use Rattle.xan_lin.specs.Terms.{sum_terms, plus_term, scaled_terms}
-use Rattle.state_types.specs.Tables.{int_cell, bool_cell}
 use Rattle.state_types.specs.declared.types.Ty.{Ty}
 use Rattle.state_types.specs.declared.types.Ty.TheVariants as ty
 use Rattle.xan_lin.specs.declared.term.LimitKind.TheVariants as limit
@@ -172,6 +171,11 @@ of_large_row = refl
 of_many_indices : elaborated (source.many_indices 1024) ≡ Err (Past limit.Variables)
 unfolding elaborated functions function body_start few_declarations few_parts few_parameters closed_type closed_types signature signatures type_of forms_from types_from named_by named_by_operands named_by_links test_named tests_named statement_named statements_named statement block assigned split stored store done printed matched_result returning all_given meeting after_branches operand operands chained product divisor quotient remainder arithmetic bounds indexed measured allocated constructed returned called negated compared truth_leaf leaf tested all_true all_false changes changes_any renewed stated_types with_types leading first_past joined present index_at values_at entered entered_if still_visible with_fresh all_assumed assuming number all_asked demanding noting_state given tuple_at cell_at opened matching excess_of renamed renamed_type variables_from knows with_row with_rows unpacked subst_ty matched found_with pairs_of pair_of values_for value_for demanded type_rows index_rows differences own_rows sized replacement replaced_terms replaced_constant sum_terms plus_term scaled_terms
 of_many_indices = refl
+
+-- each square has an index variable of its own, beside that of the parameter
+of_squares : (elaborated (source.squares 1024) ≡ Err (Past limit.Variables)) × (goals_of (elaborated (source.squares 1023)) ≡ Ok [])
+unfolding elaborated functions function body_start few_declarations few_parts few_parameters closed_type closed_types signature signatures type_of forms_from types_from named_by named_by_operands named_by_links test_named tests_named statement_named statements_named statement block assigned split stored store done printed matched_result returning all_given meeting after_branches operand operands chained product divisor quotient remainder arithmetic bounds indexed measured allocated constructed returned called negated compared truth_leaf leaf tested all_true all_false changes changes_any renewed stated_types with_types leading first_past joined present index_at values_at entered entered_if still_visible with_fresh all_assumed assuming number all_asked demanding noting_state given tuple_at cell_at opened matching excess_of renamed renamed_type variables_from knows with_row with_rows unpacked subst_ty matched found_with pairs_of pair_of values_for value_for demanded type_rows index_rows differences own_rows sized replacement replaced_terms replaced_constant sum_terms plus_term scaled_terms
+of_squares = (refl, refl)
 
 -- one variable too many
 of_many : elaborated (source.many_variables 241) ≡ Err (Past limit.Places)

@@ -13,7 +13,7 @@ use Rattle.xanadu_tree.specs.declared.types.Kind.TheVariants as kind
 use Rattle.xanadu_tree.specs.declared.types.Packing.{Packing}
 use Rattle.xanadu_tree.specs.declared.types.Quant.{Quant}
 use Rattle.xanadu_tree.specs.Small.{int_of, free}
-use Rattle.xanadu_tree.specs.Plain.{Program, Fun, Stmts, NoStmt, AStmt, Stmt, Set, Split, Store, Do, Print, If, While, Return, Test, Leaf, All, Any, Not, Tests, NoTest, ATest, Expr, Int, Bool, Var, Neg, Chain, Compare, Index, Len, Call, Make, New, Exprs, NoExpr, AnExpr, Links, NoLink, ALink}
+use Rattle.xanadu_tree.specs.Plain.{Program, Fun, Stmts, NoStmt, AStmt, Set, Split, Store, If, While, Return, Leaf, All, Any, Not, NoTest, ATest, Expr, Int, Bool, Var, Neg, Chain, Compare, Index, Len, Call, Make, NoExpr, AnExpr, NoLink, ALink}
 
 -- a form: terms and a constant
 abbrev pub form : List (ℤ × ℕ) → ℤ → Linear
@@ -198,6 +198,14 @@ declarations (suc count) first = AStmt (Set first (Int (pos 0))) (declarations c
 
 abbrev pub many_variables : ℕ → Program
 many_variables count = program_of (main_of (free 0) [] (replicate count kind.Int) (declarations count 0))
+
+-- fun main(x: int): int { var y = 0;, then y = x * x; so many times, then return y; }
+abbrev pub squared : ℕ → Stmts
+squared zero = AStmt (Return (Some (Var 1)) 0) NoStmt
+squared (suc count) = AStmt (Set 1 (two op.Mul (Var 0) 0 (Var 0))) (squared count)
+
+abbrev pub squares : ℕ → Program
+squares count = program_of (main_of (free 1) (int_of 0 ∷ []) (kind.Int ∷ kind.Int ∷ []) (AStmt (Set 1 (Int (pos 0))) (squared count)))
 
 -- fun main(x: int): int { return 1 + (2 * 3 + x); }
 abbrev pub nested : Fun

@@ -1,5 +1,5 @@
 -- Forms and types of a core, whose numbers are of any size, as those within the bounds.
-use Rattle.std.specs.Prelude.{ℕ, zero, suc, ℤ, pos, ◌-ℤ◌, List, [], ◌∷◌, ◌++◌, map, Option, Some, None, Result, Ok, Err}
+use Rattle.std.specs.Prelude.{ℕ, zero, suc, ℤ, pos, ◌-ℤ◌, List, [], ◌∷◌, ◌++◌, map, Option, Some, None, Result, Ok}
 use Rattle.xan_lin.specs.Linear.{Linear, sized, variable_form}
 use Rattle.xan_lin.specs.Subst.{subst_of}
 use Rattle.xan_lin.specs.Terms.{sum_terms, negated_terms}

@@ -1,5 +1,5 @@
 -- The goals of a core, with all that elaboration makes; or the first limit.
-use Rattle.std.specs.Prelude.{ℕ, suc, List, [], ◌∷◌, slice_get, Result, Ok, Err}
+use Rattle.std.specs.Prelude.{ℕ, suc, List, [], ◌∷◌, slice_get, Ok}
 use Rattle.std.specs.List.{enumerate_from}
 use Rattle.xan_lin.specs.declared.term.LimitKind.TheVariants as limit
 use Rattle.state_types.specs.Answers.{◌>>=◌}
@@ -12,7 +12,7 @@ use Rattle.typed_core.specs.declared.note.Note.{Note}
 use Rattle.typed_core.specs.Headers.{few_declarations, table_of, signatures}
 use Rattle.typed_core.specs.Limits.{Walk, within, in_context}
 use Rattle.typed_core.specs.Places.{places_of}
-use Rattle.typed_core.specs.States.{Site, State, there}
+use Rattle.typed_core.specs.States.{State, there}
 use Rattle.typed_core.specs.Statements.{block}
 
 -- what elaboration makes of a core

@@ -1,5 +1,5 @@
 -- The closed types and the signatures of a program, and the limits of its declarations.
-use Rattle.std.specs.Prelude.{ℕ, ◌+◌, List, [], ◌∷◌, ◌++◌, length, Result, Ok, Err}
+use Rattle.std.specs.Prelude.{◌+◌, List, [], ◌∷◌, ◌++◌, length, Ok}
 use Rattle.xan_lin.specs.declared.term.LimitKind.TheVariants as limit
 use Rattle.state_types.specs.Answers.{◌>>=◌}
 use Rattle.state_types.specs.Tables.{int_cell, bool_cell}

@@ -1,5 +1,5 @@
 -- Where control flow meets: the state that is stated there, and the ways into it.
-use Rattle.std.specs.Prelude.{ℕ, suc, ◌+◌, Bool as Truth, true, false, not, ◌&&◌, ◌||◌, ◌==◌, List, [], ◌∷◌, ◌++◌, map, length, Option, Some, None, Result, Ok, Err, is_some}
+use Rattle.std.specs.Prelude.{ℕ, suc, ◌+◌, Bool as Truth, true, false, not, ◌&&◌, ◌||◌, ◌==◌, List, [], ◌∷◌, ◌++◌, map, length, Option, Some, None, Result, Ok, Err}
 use Rattle.std.specs.List.{list_any}
 use Rattle.xan_lin.specs.Linear.{Linear, variable_form}
 use Rattle.xan_lin.specs.declared.term.TooLarge.{TooLarge}
@@ -13,7 +13,7 @@ use Rattle.xanadu_tree.specs.declared.types.CoreTy.{CoreTy}
 use Rattle.xanadu_tree.specs.Plain as core
 use Rattle.typed_core.specs.declared.note.Note.TheVariants as note
 use Rattle.typed_core.specs.Forms.{renamed, renamed_type, variables_from}
-use Rattle.typed_core.specs.Limits.{Walk, Stop, needed}
+use Rattle.typed_core.specs.Limits.{Walk, needed}
 use Rattle.typed_core.specs.States.{Site, State, resuming, with_fresh, assuming, all_asked, none_asked, noting, noting_state, there, matching}
 
 -- ---- which variables a block changes: it assigns them, or a clause within it gives them another type

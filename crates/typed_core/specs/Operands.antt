@@ -1,5 +1,5 @@
 -- Expressions: the type of each, and what it demands. Operands come first, from left to right, and then the construct's own demand.
-use Rattle.std.specs.Prelude.{ℕ, zero, suc, ◌+◌, ℤ, pos, negsuc, ◌-ℤ◌, List, [], ◌∷◌, ◌++◌, map, slice_get, Option, Some, None, Result, Ok, Err}
+use Rattle.std.specs.Prelude.{ℕ, zero, suc, ℤ, pos, negsuc, List, [], ◌∷◌, ◌++◌, map, slice_get, Option, Some, None, Result, Ok}
 use Rattle.xan_lin.specs.Linear.{Linear, sized, variable_form, sum_of, difference_of, product_of}
 use Rattle.xan_lin.specs.Subst.{subst_of, zero_form}
 use Rattle.xan_lin.specs.declared.term.TooLarge.{TooLarge}

@@ -1,5 +1,5 @@
 -- Statements and blocks: from the state before each to the one behind it.
-use Rattle.std.specs.Prelude.{ℕ, ◌+◌, Bool as Truth, true, false, ◌||◌, List, [], ◌∷◌, ◌++◌, Option, Some, None, Result, Ok, Err}
+use Rattle.std.specs.Prelude.{ℕ, ◌+◌, Bool as Truth, true, false, ◌||◌, List, [], ◌∷◌, ◌++◌, Option, Some, None, Ok, Err}
 use Rattle.xan_lin.specs.Linear.{Linear}
 use Rattle.xan_lin.specs.Subst.{zero_form}
 use Rattle.state_types.specs.Answers.{◌>>=◌}

@@ -1,5 +1,5 @@
 -- What is known at a place of a function's body, and how elaboration goes from one such state to the next.
-use Rattle.std.specs.Prelude.{ℕ, ◌+◌, Bool as Truth, true, false, List, [], ◌∷◌, ◌++◌, length, slice_get, Option, Some, None, Result, Ok, Err, ◌==◌, if◌then◌else◌}
+use Rattle.std.specs.Prelude.{ℕ, Bool as Truth, true, false, List, [], ◌∷◌, ◌++◌, length, slice_get, Option, Some, None, Result, Ok, Err, ◌==◌, if◌then◌else◌}
 use Rattle.index_sorts.specs.Context.{IndexContext, fresh_from, with_variables}
 use Rattle.index_sorts.specs.Known.{knows, with_row}
 use Rattle.xan_lin.specs.Linear.{Linear, variable_form}

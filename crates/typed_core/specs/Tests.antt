@@ -1,5 +1,5 @@
 -- Tests: the rows that hold where a test is true, and those where it is false.
-use Rattle.std.specs.Prelude.{List, [], ◌∷◌, Result, Ok, Err}
+use Rattle.std.specs.Prelude.{List, [], ◌∷◌, Result, Ok}
 use Rattle.xan_lin.specs.Linear.{Linear, difference_of}
 use Rattle.xan_lin.specs.declared.term.TooLarge.{TooLarge}
 use Rattle.state_types.specs.Answers.{◌>>=◌}
