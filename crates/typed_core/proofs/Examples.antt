@@ -61,15 +61,15 @@ notes_of (Err stop) = Err stop
 
 -- Of the sum of an array's cells, the loop's back edge has the only goal: v1 + 1 is at least 0. That it is at most v0 is known from the
 -- test, and that the index is within the array from the clause and the test.
-of_sum : goals_of (elaborated source.sum_of_cells) ≡ Ok (goal_at 63 4 (v 0 ∷ v 1 ∷ rest ∷ rest_less_1 ∷ []) (row ((pos 1, 1) ∷ []) (pos 1)) ∷ [])
-unfolding elaborated functions function body_start few_declarations few_parts few_parameters closed_type closed_types signature signatures type_of forms_from types_from named_by named_by_operands named_by_links test_named tests_named statement_named statements_named statement block assigned split stored store done printed matched_result returning all_given meeting after_branches operand operands chained product divisor quotient remainder arithmetic bounds indexed measured allocated constructed returned called negated compared truth_leaf leaf tested all_true all_false changes changes_any renewed stated_types with_types leading first_past joined present index_at values_at entered entered_if still_visible with_fresh all_assumed assuming number all_asked demanding noting_state given tuple_at cell_at opened matching excess_of renamed renamed_type variables_from knows with_row with_rows unpacked subst_ty matched found_with pairs_of pair_of values_for value_for demanded type_rows index_rows differences own_rows sized replacement replaced_terms replaced_constant sum_terms plus_term scaled_terms
-of_sum = refl
+abbrev OfSum : Type 0
+OfSum = goals_of (elaborated source.sum_of_cells) ≡ Ok (goal_at 63 4 (v 0 ∷ v 1 ∷ rest ∷ rest_less_1 ∷ []) (row ((pos 1, 1) ∷ []) (pos 1)) ∷ [])
 
 -- the loop's head, its entry, the cell, the way back, behind the loop, the result
 abbrev in_loop : List (ℕ × Ty)
 in_loop = (0, ty.Array 0 (v 0)) ∷ (1, ty.Int (v 1)) ∷ (2, ty.Int (v 2)) ∷ []
 
-notes_of_sum : notes_of (elaborated source.sum_of_cells) ≡ Ok (
+abbrev NotesOfSum : Type 0
+NotesOfSum = notes_of (elaborated source.sum_of_cells) ≡ Ok (
     state 3 (v 0 ∷ v 1 ∷ rest ∷ []) in_loop
     ∷ note.Edge ((1, zero_form) ∷ (2, zero_form) ∷ []) []
     ∷ note.Demand []
@@ -77,35 +77,30 @@ notes_of_sum : notes_of (elaborated source.sum_of_cells) ≡ Ok (
     ∷ state 4 (v 0 ∷ v 1 ∷ rest ∷ row ((negsuc 0, 0) ∷ (pos 1, 1) ∷ []) (pos 0) ∷ []) in_loop
     ∷ note.Demand []
     ∷ [])
-unfolding elaborated functions function body_start few_declarations few_parts few_parameters closed_type closed_types signature signatures type_of forms_from types_from named_by named_by_operands named_by_links test_named tests_named statement_named statements_named statement block assigned split stored store done printed matched_result returning all_given meeting after_branches operand operands chained product divisor quotient remainder arithmetic bounds indexed measured allocated constructed returned called negated compared truth_leaf leaf tested all_true all_false changes changes_any renewed stated_types with_types leading first_past joined present index_at values_at entered entered_if still_visible with_fresh all_assumed assuming number all_asked demanding noting_state given tuple_at cell_at opened matching excess_of renamed renamed_type variables_from knows with_row with_rows unpacked subst_ty matched found_with pairs_of pair_of values_for value_for demanded type_rows index_rows differences own_rows sized replacement replaced_terms replaced_constant sum_terms plus_term scaled_terms
-notes_of_sum = refl
 
 -- with `<=` the index may be the length
-of_one_too_far : goals_of (elaborated source.one_too_far) ≡ Ok (
+abbrev OfOneTooFar : Type 0
+OfOneTooFar = goals_of (elaborated source.one_too_far) ≡ Ok (
     goal_at 141 3 (v 0 ∷ v 1 ∷ rest ∷ []) rest_less_1
     ∷ goal_at 63 4 (v 0 ∷ v 1 ∷ rest ∷ []) (row ((pos 1, 1) ∷ []) (pos 1))
     ∷ goal_at 63 4 (v 0 ∷ v 1 ∷ rest ∷ []) rest_less_1
     ∷ [])
-unfolding elaborated functions function body_start few_declarations few_parts few_parameters closed_type closed_types signature signatures type_of forms_from types_from named_by named_by_operands named_by_links test_named tests_named statement_named statements_named statement block assigned split stored store done printed matched_result returning all_given meeting after_branches operand operands chained product divisor quotient remainder arithmetic bounds indexed measured allocated constructed returned called negated compared truth_leaf leaf tested all_true all_false changes changes_any renewed stated_types with_types leading first_past joined present index_at values_at entered entered_if still_visible with_fresh all_assumed assuming number all_asked demanding noting_state given tuple_at cell_at opened matching excess_of renamed renamed_type variables_from knows with_row with_rows unpacked subst_ty matched found_with pairs_of pair_of values_for value_for demanded type_rows index_rows differences own_rows sized replacement replaced_terms replaced_constant sum_terms plus_term scaled_terms
-of_one_too_far = refl
 
 -- without a clause nothing is known of the counter but the test
-of_not_stated : goals_of (elaborated source.not_stated) ≡ Ok (goal_at 97 3 (v 0 ∷ rest_less_1 ∷ []) (v 1) ∷ [])
-unfolding elaborated functions function body_start few_declarations few_parts few_parameters closed_type closed_types signature signatures type_of forms_from types_from named_by named_by_operands named_by_links test_named tests_named statement_named statements_named statement block assigned split stored store done printed matched_result returning all_given meeting after_branches operand operands chained product divisor quotient remainder arithmetic bounds indexed measured allocated constructed returned called negated compared truth_leaf leaf tested all_true all_false changes changes_any renewed stated_types with_types leading first_past joined present index_at values_at entered entered_if still_visible with_fresh all_assumed assuming number all_asked demanding noting_state given tuple_at cell_at opened matching excess_of renamed renamed_type variables_from knows with_row with_rows unpacked subst_ty matched found_with pairs_of pair_of values_for value_for demanded type_rows index_rows differences own_rows sized replacement replaced_terms replaced_constant sum_terms plus_term scaled_terms
-of_not_stated = refl
+abbrev OfNotStated : Type 0
+OfNotStated = goals_of (elaborated source.not_stated) ≡ Ok (goal_at 97 3 (v 0 ∷ rest_less_1 ∷ []) (v 1) ∷ [])
 
 -- a divisor is at least 1
-of_divided : goals_of (elaborated source.divided) ≡ Ok (goal_at 33 1 [] (row ((pos 1, 0) ∷ []) (negsuc 0)) ∷ [])
-unfolding elaborated functions function body_start few_declarations few_parts few_parameters closed_type closed_types signature signatures type_of forms_from types_from named_by named_by_operands named_by_links test_named tests_named statement_named statements_named statement block assigned split stored store done printed matched_result returning all_given meeting after_branches operand operands chained product divisor quotient remainder arithmetic bounds indexed measured allocated constructed returned called negated compared truth_leaf leaf tested all_true all_false changes changes_any renewed stated_types with_types leading first_past joined present index_at values_at entered entered_if still_visible with_fresh all_assumed assuming number all_asked demanding noting_state given tuple_at cell_at opened matching excess_of renamed renamed_type variables_from knows with_row with_rows unpacked subst_ty matched found_with pairs_of pair_of values_for value_for demanded type_rows index_rows differences own_rows sized replacement replaced_terms replaced_constant sum_terms plus_term scaled_terms
-of_divided = refl
+abbrev OfDivided : Type 0
+OfDivided = goals_of (elaborated source.divided) ≡ Ok (goal_at 33 1 [] (row ((pos 1, 0) ∷ []) (negsuc 0)) ∷ [])
 
 -- x is at most x + 1, which is the number 1
-of_pairs : goals_of (elaborated source.pairs) ≡ Ok []
-unfolding elaborated functions function body_start few_declarations few_parts few_parameters closed_type closed_types signature signatures type_of forms_from types_from named_by named_by_operands named_by_links test_named tests_named statement_named statements_named statement block assigned split stored store done printed matched_result returning all_given meeting after_branches operand operands chained product divisor quotient remainder arithmetic bounds indexed measured allocated constructed returned called negated compared truth_leaf leaf tested all_true all_false changes changes_any renewed stated_types with_types leading first_past joined present index_at values_at entered entered_if still_visible with_fresh all_assumed assuming number all_asked demanding noting_state given tuple_at cell_at opened matching excess_of renamed renamed_type variables_from knows with_row with_rows unpacked subst_ty matched found_with pairs_of pair_of values_for value_for demanded type_rows index_rows differences own_rows sized replacement replaced_terms replaced_constant sum_terms plus_term scaled_terms
-of_pairs = refl
+abbrev OfPairs : Type 0
+OfPairs = goals_of (elaborated source.pairs) ≡ Ok []
 
 -- A clause in a branch names the array, which so has another variable as its length behind the branch, though nothing is assigned.
-of_inner_clause : notes_of (elaborated source.inner_clause) ≡ Ok (
+abbrev OfInnerClause : Type 0
+OfInnerClause = notes_of (elaborated source.inner_clause) ≡ Ok (
     state 2 (v 0 ∷ row ((negsuc 0, 0) ∷ []) (pos 2) ∷ v 1 ∷ []) ((0, ty.Array 0 (v 1)) ∷ [])
     ∷ note.Edge ((1, v 0) ∷ []) []
     ∷ note.Edge ((1, v 1) ∷ []) []
@@ -116,28 +111,22 @@ of_inner_clause : notes_of (elaborated source.inner_clause) ≡ Ok (
     ∷ note.Edge ((2, v 0) ∷ []) []
     ∷ note.Demand []
     ∷ [])
-unfolding elaborated functions function body_start few_declarations few_parts few_parameters closed_type closed_types signature signatures type_of forms_from types_from named_by named_by_operands named_by_links test_named tests_named statement_named statements_named statement block assigned split stored store done printed matched_result returning all_given meeting after_branches operand operands chained product divisor quotient remainder arithmetic bounds indexed measured allocated constructed returned called negated compared truth_leaf leaf tested all_true all_false changes changes_any renewed stated_types with_types leading first_past joined present index_at values_at entered entered_if still_visible with_fresh all_assumed assuming number all_asked demanding noting_state given tuple_at cell_at opened matching excess_of renamed renamed_type variables_from knows with_row with_rows unpacked subst_ty matched found_with pairs_of pair_of values_for value_for demanded type_rows index_rows differences own_rows sized replacement replaced_terms replaced_constant sum_terms plus_term scaled_terms
-of_inner_clause = refl
 
 -- both bounds of an index that is any number
-of_stores : goals_of (elaborated source.stores) ≡ Ok (goal_at 44 2 (v 0 ∷ []) (v 1) ∷ goal_at 44 2 (v 0 ∷ []) rest_less_1 ∷ [])
-unfolding elaborated functions function body_start few_declarations few_parts few_parameters closed_type closed_types signature signatures type_of forms_from types_from named_by named_by_operands named_by_links test_named tests_named statement_named statements_named statement block assigned split stored store done printed matched_result returning all_given meeting after_branches operand operands chained product divisor quotient remainder arithmetic bounds indexed measured allocated constructed returned called negated compared truth_leaf leaf tested all_true all_false changes changes_any renewed stated_types with_types leading first_past joined present index_at values_at entered entered_if still_visible with_fresh all_assumed assuming number all_asked demanding noting_state given tuple_at cell_at opened matching excess_of renamed renamed_type variables_from knows with_row with_rows unpacked subst_ty matched found_with pairs_of pair_of values_for value_for demanded type_rows index_rows differences own_rows sized replacement replaced_terms replaced_constant sum_terms plus_term scaled_terms
-of_stores = refl
+abbrev OfStores : Type 0
+OfStores = goals_of (elaborated source.stores) ≡ Ok (goal_at 44 2 (v 0 ∷ []) (v 1) ∷ goal_at 44 2 (v 0 ∷ []) rest_less_1 ∷ [])
 
 -- the callee wants a number of at least 0, and returns the same number
-of_calls : goals_of (elaborated source.calls) ≡ Ok (record { fun = 1; at = 96; ctx = record { vars = 1; rows = [] }; row = v 0 } ∷ [])
-unfolding elaborated functions function body_start few_declarations few_parts few_parameters closed_type closed_types signature signatures type_of forms_from types_from named_by named_by_operands named_by_links test_named tests_named statement_named statements_named statement block assigned split stored store done printed matched_result returning all_given meeting after_branches operand operands chained product divisor quotient remainder arithmetic bounds indexed measured allocated constructed returned called negated compared truth_leaf leaf tested all_true all_false changes changes_any renewed stated_types with_types leading first_past joined present index_at values_at entered entered_if still_visible with_fresh all_assumed assuming number all_asked demanding noting_state given tuple_at cell_at opened matching excess_of renamed renamed_type variables_from knows with_row with_rows unpacked subst_ty matched found_with pairs_of pair_of values_for value_for demanded type_rows index_rows differences own_rows sized replacement replaced_terms replaced_constant sum_terms plus_term scaled_terms
-of_calls = refl
+abbrev OfCalls : Type 0
+OfCalls = goals_of (elaborated source.calls) ≡ Ok (record { fun = 1; at = 96; ctx = record { vars = 1; rows = [] }; row = v 0 } ∷ [])
 
 -- behind the branches no more is known of a variable that one of them assigns
-of_branch_assigns : goals_of (elaborated source.branch_assigns) ≡ Ok (goal_at 66 2 [] (row ((pos 1, 1) ∷ []) (negsuc 0)) ∷ [])
-unfolding elaborated functions function body_start few_declarations few_parts few_parameters closed_type closed_types signature signatures type_of forms_from types_from named_by named_by_operands named_by_links test_named tests_named statement_named statements_named statement block assigned split stored store done printed matched_result returning all_given meeting after_branches operand operands chained product divisor quotient remainder arithmetic bounds indexed measured allocated constructed returned called negated compared truth_leaf leaf tested all_true all_false changes changes_any renewed stated_types with_types leading first_past joined present index_at values_at entered entered_if still_visible with_fresh all_assumed assuming number all_asked demanding noting_state given tuple_at cell_at opened matching excess_of renamed renamed_type variables_from knows with_row with_rows unpacked subst_ty matched found_with pairs_of pair_of values_for value_for demanded type_rows index_rows differences own_rows sized replacement replaced_terms replaced_constant sum_terms plus_term scaled_terms
-of_branch_assigns = refl
+abbrev OfBranchAssigns : Type 0
+OfBranchAssigns = goals_of (elaborated source.branch_assigns) ≡ Ok (goal_at 66 2 [] (row ((pos 1, 1) ∷ []) (negsuc 0)) ∷ [])
 
 -- where neither holds, x is at least 1
-of_either : goals_of (elaborated source.either) ≡ Ok []
-unfolding elaborated functions function body_start few_declarations few_parts few_parameters closed_type closed_types signature signatures type_of forms_from types_from named_by named_by_operands named_by_links test_named tests_named statement_named statements_named statement block assigned split stored store done printed matched_result returning all_given meeting after_branches operand operands chained product divisor quotient remainder arithmetic bounds indexed measured allocated constructed returned called negated compared truth_leaf leaf tested all_true all_false changes changes_any renewed stated_types with_types leading first_past joined present index_at values_at entered entered_if still_visible with_fresh all_assumed assuming number all_asked demanding noting_state given tuple_at cell_at opened matching excess_of renamed renamed_type variables_from knows with_row with_rows unpacked subst_ty matched found_with pairs_of pair_of values_for value_for demanded type_rows index_rows differences own_rows sized replacement replaced_terms replaced_constant sum_terms plus_term scaled_terms
-of_either = refl
+abbrev OfEither : Type 0
+OfEither = goals_of (elaborated source.either) ≡ Ok []
 
 -- the places and the rows of goals alone
 abbrev rows_at : List GoalAt → List (ℕ × Linear)
@@ -149,40 +138,43 @@ rows_of (Ok made) = Ok (rows_at made.goals)
 rows_of (Err stop) = Err stop
 
 -- Of a binary search, the middle v4 is within the array; where the branches meet, the bounds are v4 + 1 and v3, or v2 and v4.
-of_search : rows_of (elaborated source.search_of_cells) ≡ Ok (
+abbrev OfSearch : Type 0
+OfSearch = rows_of (elaborated source.search_of_cells) ≡ Ok (
     (200, v 4) ∷ (200, row ((pos 1, 0) ∷ (negsuc 0, 4) ∷ []) (negsuc 0))
     ∷ (239, row ((pos 1, 4) ∷ []) (pos 1)) ∷ (239, row ((pos 1, 3) ∷ (negsuc 0, 4) ∷ []) (negsuc 0))
     ∷ (239, row ((negsuc 0, 2) ∷ (pos 1, 4) ∷ []) (pos 0)) ∷ (239, row ((pos 1, 0) ∷ (negsuc 0, 4) ∷ []) (pos 0))
     ∷ [])
-unfolding elaborated functions function body_start few_declarations few_parts few_parameters closed_type closed_types signature signatures type_of forms_from types_from named_by named_by_operands named_by_links test_named tests_named statement_named statements_named statement block assigned split stored store done printed matched_result returning all_given meeting after_branches operand operands chained product divisor quotient remainder arithmetic bounds indexed measured allocated constructed returned called negated compared truth_leaf leaf tested all_true all_false changes changes_any renewed stated_types with_types leading first_past joined present index_at values_at entered entered_if still_visible with_fresh all_assumed assuming number all_asked demanding noting_state given tuple_at cell_at opened matching excess_of renamed renamed_type variables_from knows with_row with_rows unpacked subst_ty matched found_with pairs_of pair_of values_for value_for demanded type_rows index_rows differences own_rows sized replacement replaced_terms replaced_constant sum_terms plus_term scaled_terms
-of_search = refl
 
 -- the second part of a test, and the branch, know that y is at least 1
-of_both : goals_of (elaborated source.both) ≡ Ok []
-unfolding elaborated functions function body_start few_declarations few_parts few_parameters closed_type closed_types signature signatures type_of forms_from types_from named_by named_by_operands named_by_links test_named tests_named statement_named statements_named statement block assigned split stored store done printed matched_result returning all_given meeting after_branches operand operands chained product divisor quotient remainder arithmetic bounds indexed measured allocated constructed returned called negated compared truth_leaf leaf tested all_true all_false changes changes_any renewed stated_types with_types leading first_past joined present index_at values_at entered entered_if still_visible with_fresh all_assumed assuming number all_asked demanding noting_state given tuple_at cell_at opened matching excess_of renamed renamed_type variables_from knows with_row with_rows unpacked subst_ty matched found_with pairs_of pair_of values_for value_for demanded type_rows index_rows differences own_rows sized replacement replaced_terms replaced_constant sum_terms plus_term scaled_terms
-of_both = refl
+abbrev OfBoth : Type 0
+OfBoth = goals_of (elaborated source.both) ≡ Ok []
 
 -- what a clause states past the bounds is the limit at the entry
-of_large_row : elaborated source.large_row ≡ Err (Past limit.Magnitude)
-unfolding elaborated functions function body_start few_declarations few_parts few_parameters closed_type closed_types signature signatures type_of forms_from types_from named_by named_by_operands named_by_links test_named tests_named statement_named statements_named statement block assigned split stored store done printed matched_result returning all_given meeting after_branches operand operands chained product divisor quotient remainder arithmetic bounds indexed measured allocated constructed returned called negated compared truth_leaf leaf tested all_true all_false changes changes_any renewed stated_types with_types leading first_past joined present index_at values_at entered entered_if still_visible with_fresh all_assumed assuming number all_asked demanding noting_state given tuple_at cell_at opened matching excess_of renamed renamed_type variables_from knows with_row with_rows unpacked subst_ty matched found_with pairs_of pair_of values_for value_for demanded type_rows index_rows differences own_rows sized replacement replaced_terms replaced_constant sum_terms plus_term scaled_terms
-of_large_row = refl
+abbrev OfLargeRow : Type 0
+OfLargeRow = elaborated source.large_row ≡ Err (Past limit.Magnitude)
 
 -- with the result's own variable there are 1,025
-of_many_indices : elaborated (source.many_indices 1024) ≡ Err (Past limit.Variables)
-unfolding elaborated functions function body_start few_declarations few_parts few_parameters closed_type closed_types signature signatures type_of forms_from types_from named_by named_by_operands named_by_links test_named tests_named statement_named statements_named statement block assigned split stored store done printed matched_result returning all_given meeting after_branches operand operands chained product divisor quotient remainder arithmetic bounds indexed measured allocated constructed returned called negated compared truth_leaf leaf tested all_true all_false changes changes_any renewed stated_types with_types leading first_past joined present index_at values_at entered entered_if still_visible with_fresh all_assumed assuming number all_asked demanding noting_state given tuple_at cell_at opened matching excess_of renamed renamed_type variables_from knows with_row with_rows unpacked subst_ty matched found_with pairs_of pair_of values_for value_for demanded type_rows index_rows differences own_rows sized replacement replaced_terms replaced_constant sum_terms plus_term scaled_terms
-of_many_indices = refl
+abbrev OfManyIndices : Type 0
+OfManyIndices = elaborated (source.many_indices 1024) ≡ Err (Past limit.Variables)
 
 -- each square has an index variable of its own, beside that of the parameter
-of_squares : (elaborated (source.squares 1024) ≡ Err (Past limit.Variables)) × (goals_of (elaborated (source.squares 1023)) ≡ Ok [])
-unfolding elaborated functions function body_start few_declarations few_parts few_parameters closed_type closed_types signature signatures type_of forms_from types_from named_by named_by_operands named_by_links test_named tests_named statement_named statements_named statement block assigned split stored store done printed matched_result returning all_given meeting after_branches operand operands chained product divisor quotient remainder arithmetic bounds indexed measured allocated constructed returned called negated compared truth_leaf leaf tested all_true all_false changes changes_any renewed stated_types with_types leading first_past joined present index_at values_at entered entered_if still_visible with_fresh all_assumed assuming number all_asked demanding noting_state given tuple_at cell_at opened matching excess_of renamed renamed_type variables_from knows with_row with_rows unpacked subst_ty matched found_with pairs_of pair_of values_for value_for demanded type_rows index_rows differences own_rows sized replacement replaced_terms replaced_constant sum_terms plus_term scaled_terms
-of_squares = (refl, refl)
+abbrev OfSquares : Type 0
+OfSquares = (elaborated (source.squares 1024) ≡ Err (Past limit.Variables)) × (goals_of (elaborated (source.squares 1023)) ≡ Ok [])
 
 -- one variable too many
-of_many : elaborated (source.many_variables 241) ≡ Err (Past limit.Places)
-unfolding elaborated functions function body_start few_declarations few_parts few_parameters closed_type closed_types signature signatures type_of forms_from types_from named_by named_by_operands named_by_links test_named tests_named statement_named statements_named statement block assigned split stored store done printed matched_result returning all_given meeting after_branches operand operands chained product divisor quotient remainder arithmetic bounds indexed measured allocated constructed returned called negated compared truth_leaf leaf tested all_true all_false changes changes_any renewed stated_types with_types leading first_past joined present index_at values_at entered entered_if still_visible with_fresh all_assumed assuming number all_asked demanding noting_state given tuple_at cell_at opened matching excess_of renamed renamed_type variables_from knows with_row with_rows unpacked subst_ty matched found_with pairs_of pair_of values_for value_for demanded type_rows index_rows differences own_rows sized replacement replaced_terms replaced_constant sum_terms plus_term scaled_terms
-of_many = refl
+abbrev OfMany : Type 0
+OfMany = elaborated (source.many_variables 241) ≡ Err (Past limit.Places)
 
 -- the three variables of the sum, and t0; three temporaries behind x
-of_places : (places_of (source.main_fun source.sum_of_cells) ≡ 4) × (places_of source.nested ≡ 4)
+abbrev OfPlaces : Type 0
+OfPlaces = (places_of (source.main_fun source.sum_of_cells) ≡ 4) × (places_of source.nested ≡ 4)
+
+-- ---- they hold, by computation
+
+small_sources : OfSum × NotesOfSum × OfOneTooFar × OfNotStated × OfDivided × OfPairs × OfInnerClause × OfStores × OfCalls × OfBranchAssigns × OfEither × OfSearch × OfBoth × OfLargeRow × OfManyIndices × OfMany × OfPlaces
 unfolding elaborated functions function body_start few_declarations few_parts few_parameters closed_type closed_types signature signatures type_of forms_from types_from named_by named_by_operands named_by_links test_named tests_named statement_named statements_named statement block assigned split stored store done printed matched_result returning all_given meeting after_branches operand operands chained product divisor quotient remainder arithmetic bounds indexed measured allocated constructed returned called negated compared truth_leaf leaf tested all_true all_false changes changes_any renewed stated_types with_types leading first_past joined present index_at values_at entered entered_if still_visible with_fresh all_assumed assuming number all_asked demanding noting_state given tuple_at cell_at opened matching excess_of renamed renamed_type variables_from knows with_row with_rows unpacked subst_ty matched found_with pairs_of pair_of values_for value_for demanded type_rows index_rows differences own_rows sized replacement replaced_terms replaced_constant sum_terms plus_term scaled_terms
-of_places = (refl, refl)
+small_sources = (refl, refl, refl, refl, refl, refl, refl, refl, refl, refl, refl, refl, refl, refl, refl, refl, (refl, refl))
+
+long_source : OfSquares
+unfolding elaborated functions function body_start few_declarations few_parts few_parameters closed_type closed_types signature signatures type_of forms_from types_from named_by named_by_operands named_by_links test_named tests_named statement_named statements_named statement block assigned split stored store done printed matched_result returning all_given meeting after_branches operand operands chained product divisor quotient remainder arithmetic bounds indexed measured allocated constructed returned called negated compared truth_leaf leaf tested all_true all_false changes changes_any renewed stated_types with_types leading first_past joined present index_at values_at entered entered_if still_visible with_fresh all_assumed assuming number all_asked demanding noting_state given tuple_at cell_at opened matching excess_of renamed renamed_type variables_from knows with_row with_rows unpacked subst_ty matched found_with pairs_of pair_of values_for value_for demanded type_rows index_rows differences own_rows sized replacement replaced_terms replaced_constant sum_terms plus_term scaled_terms
+long_source = (refl, refl)

@@ -36,7 +36,14 @@ two o left at right = Chain left (ALink o right at NoLink)
 -- a function `main` whose result is any number
 abbrev pub main_of : Quant → List CoreTy → List Kind → Stmts → Fun
 main_of quant params kinds body = record {
-  name = codes "main"; quant = quant; params = params; result_quant = free 1; result = int_of quant.count; kinds = kinds; body = body; at = 0;
+  name = codes "main";
+  quant = quant;
+  params = params;
+  result_quant = free 1;
+  result = int_of quant.count;
+  kinds = kinds;
+  body = body;
+  at = 0;
 }
 
 abbrev pub program_of : Fun → Program
@@ -56,8 +63,8 @@ summing r head index_at = program_of (main_of (assuming 1 (var 0 ∷ [])) (array
     (AStmt (Set 1 (Int (pos 0)))
     (AStmt (Set 2 (Int (pos 0)))
     (AStmt (While (Leaf (Compare r (Var 1) (Len (Var 0)))) head
-        (AStmt (Set 2 (two op.Add (Var 2) 137 (Index (Var 0) (Var 1) index_at)))
-        (AStmt (Set 1 (two op.Add (Var 1) 155 (Int (pos 1)))) NoStmt)) 63)
+    (AStmt (Set 2 (two op.Add (Var 2) 137 (Index (Var 0) (Var 1) index_at)))
+    (AStmt (Set 1 (two op.Add (Var 1) 155 (Int (pos 1)))) NoStmt)) 63)
     (AStmt (Return (Some (Var 2)) 166) NoStmt)))))
 
 -- {k: int | 0 <= k, k <= n} (i: int(k))
@@ -101,8 +108,8 @@ pairs = record (program_of (main_of (free 1) (int_of 0 ∷ []) (kind.Int ∷ kin
 abbrev pub inner_clause : Program
 inner_clause = program_of (main_of (assuming 1 (var 0 ∷ [])) (array_of 0 ∷ []) (kind.Array 0 ∷ [])
     (AStmt (If (Leaf (Compare rel.Lt (Len (Var 0)) (Int (pos 3))))
-        (AStmt (While (Leaf (Bool false)) (Some (record { first = 1; quant = assuming 1 (var 1 ∷ []); vars = (0, array_of 1) ∷ [] })) NoStmt 44) NoStmt)
-        NoStmt None 26)
+    (AStmt (While (Leaf (Bool false)) (Some (record { first = 1; quant = assuming 1 (var 1 ∷ []); vars = (0, array_of 1) ∷ [] })) NoStmt 44) NoStmt)
+    NoStmt None 26)
     (AStmt (Return (Some (Len (Var 0))) 90) NoStmt)))
 
 -- fun main{n: nat}(a: int[n], i: int): int { a[i] = i; return 0; }
@@ -113,8 +120,14 @@ stores = program_of (main_of (assuming 2 (var 0 ∷ [])) (array_of 0 ∷ int_of 
 -- fun f{n: nat}(x: int(n)): {m: int | n <= m} int(m) { return x; } fun main(x: int): int { return f(x); }
 abbrev pub callee : Fun
 callee = record {
-  name = codes "f"; quant = assuming 1 (var 0 ∷ []); params = int_of 0 ∷ []; result_quant = assuming 1 (form ((negsuc 0, 0) ∷ (pos 1, 1) ∷ []) (pos 0) ∷ []);
-  result = int_of 1; kinds = kind.Int ∷ []; body = AStmt (Return (Some (Var 0)) 53) NoStmt; at = 0;
+  name = codes "f";
+  quant = assuming 1 (var 0 ∷ []);
+  params = int_of 0 ∷ [];
+  result_quant = assuming 1 (form ((negsuc 0, 0) ∷ (pos 1, 1) ∷ []) (pos 0) ∷ []);
+  result = int_of 1;
+  kinds = kind.Int ∷ [];
+  body = AStmt (Return (Some (Var 0)) 53) NoStmt;
+  at = 0;
 }
 
 abbrev pub calls : Program
@@ -135,7 +148,7 @@ branch_assigns = program_of (main_of (free 1) (int_of 0 ∷ []) (kind.Int ∷ ki
 abbrev pub either : Program
 either = program_of (main_of (free 1) (ty.Bool ∷ int_of 0 ∷ []) (kind.Bool ∷ kind.Int ∷ [])
     (AStmt (If (Any (ATest (Leaf (Var 0)) (ATest (Not (Leaf (Compare rel.Lt (Int (pos 0)) (Var 1)))) NoTest)))
-        (AStmt (Return (Some (Int (pos 1))) 54) NoStmt) NoStmt None 33)
+    (AStmt (Return (Some (Int (pos 1))) 54) NoStmt) NoStmt None 33)
     (AStmt (Return (Some (two op.Div (Int (pos 5)) 75 (Var 1))) 66) NoStmt)))
 
 -- fun main{n: nat}(x: int, a: int[n]): int {
@@ -162,20 +175,20 @@ search_of_cells = program_of (main_of (assuming 2 (var 0 ∷ [])) (int_of 1 ∷ 
     (AStmt (Set 2 (Int (pos 0)))
     (AStmt (Set 3 (Len (Var 1)))
     (AStmt (While (Leaf (Compare rel.Lt (Var 2) (Var 3))) (Some (bounds_clause 2))
-        (AStmt (Set 4 (two op.Div (two op.Add (Var 2) 177 (Var 3)) 182 (Int (pos 2))))
-        (AStmt (Set 5 (Index (Var 1) (Var 4) 200))
-        (AStmt (If (Leaf (Compare rel.Eq (Var 5) (Var 0))) (AStmt (Return (Some (Var 4)) 223) NoStmt) NoStmt None 209)
-        (AStmt (If (Leaf (Compare rel.Lt (Var 5) (Var 0)))
-            (AStmt (Set 2 (two op.Add (Var 4) 258 (Int (pos 1)))) NoStmt)
-            (AStmt (Set 3 (Var 4)) NoStmt) (Some (bounds_clause 4)) 239) NoStmt)))) 76)
+    (AStmt (Set 4 (two op.Div (two op.Add (Var 2) 177 (Var 3)) 182 (Int (pos 2))))
+    (AStmt (Set 5 (Index (Var 1) (Var 4) 200))
+    (AStmt (If (Leaf (Compare rel.Eq (Var 5) (Var 0))) (AStmt (Return (Some (Var 4)) 223) NoStmt) NoStmt None 209)
+    (AStmt (If (Leaf (Compare rel.Lt (Var 5) (Var 0)))
+    (AStmt (Set 2 (two op.Add (Var 4) 258 (Int (pos 1)))) NoStmt)
+    (AStmt (Set 3 (Var 4)) NoStmt) (Some (bounds_clause 4)) 239) NoStmt)))) 76)
     (AStmt (Return (Some (Neg (Int (pos 1)))) 361) NoStmt)))))
 
 -- fun main(x: int, y: int): int { if (0 < y && x % y < 1) { return x / y; } return 0; }
 abbrev pub both : Program
 both = program_of (main_of (free 2) (int_of 0 ∷ int_of 1 ∷ []) (kind.Int ∷ kind.Int ∷ [])
     (AStmt (If (All (ATest (Leaf (Compare rel.Lt (Int (pos 0)) (Var 1)))
-            (ATest (Leaf (Compare rel.Lt (two op.Mod (Var 0) 47 (Var 1)) (Int (pos 1)))) NoTest)))
-        (AStmt (Return (Some (two op.Div (Var 0) 67 (Var 1))) 58) NoStmt) NoStmt None 32)
+    (ATest (Leaf (Compare rel.Lt (two op.Mod (Var 0) 47 (Var 1)) (Int (pos 1)))) NoTest)))
+    (AStmt (Return (Some (two op.Div (Var 0) 67 (Var 1))) 58) NoStmt) NoStmt None 32)
     (AStmt (Return (Some (Int (pos 0))) 74) NoStmt)))
 
 -- a clause whose row k + 4611686018427387904 >= 0 is past the bounds, at a loop that begins with k = 0
@@ -183,8 +196,8 @@ abbrev pub large_row : Program
 large_row = program_of (main_of (free 1) (int_of 0 ∷ []) (kind.Int ∷ kind.Int ∷ [])
     (AStmt (Set 1 (Int (pos 0)))
     (AStmt (While (Leaf (Compare rel.Lt (Var 1) (Var 0)))
-        (Some (record { first = 1; quant = assuming 1 (form ((pos 1, 1) ∷ []) (pos 4611686018427387904) ∷ []); vars = (1, int_of 1) ∷ [] }))
-        (AStmt (Set 1 (Var 0)) NoStmt) 36)
+    (Some (record { first = 1; quant = assuming 1 (form ((pos 1, 1) ∷ []) (pos 4611686018427387904) ∷ []); vars = (1, int_of 1) ∷ [] }))
+    (AStmt (Set 1 (Var 0)) NoStmt) 36)
     (AStmt (Return (Some (Var 1)) 140) NoStmt))))
 
 -- a function of so many index variables

@@ -17,5 +17,7 @@ pub enum Note {
         goals: Seq<u32>,
     },
     /// The goals among the rows that a construct demands.
-    Demand { goals: Seq<u32> },
+    Demand {
+        goals: Seq<u32>,
+    },
 }
