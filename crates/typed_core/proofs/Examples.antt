@@ -1,5 +1,5 @@
 -- The goals of small sources, worked out by hand.
-use Rattle.std.proofs.Common.{◌≡◌, ℕ, ℤ, pos, negsuc, List, [], ◌∷◌, Result, Ok, Err, refl}
+use Rattle.std.proofs.Common.{◌≡◌, ℕ, ℤ, pos, negsuc, List, [], ◌∷◌, Result, Ok, Err, refl, Some, inl}
 use Rattle.xan_lin.specs.declared.term.Term.{Term}
 use Rattle.typed_core.specs.Goals.{elaborated, functions, function, body_start, Elaboration}
 use Rattle.typed_core.specs.Headers.{few_declarations, few_parts, few_parameters, closed_type, closed_types, signature, signatures}
@@ -25,6 +25,9 @@ use Rattle.typed_core.specs.declared.goal.GoalAt.{GoalAt}
 use Rattle.typed_core.specs.declared.note.Note.{Note}
 use Rattle.typed_core.specs.declared.note.Note.TheVariants as note
 use Rattle.typed_core.proofs.Sources as source
+use Rattle.xanadu_tree.specs.declared.expr.Op.TheVariants as op
+use Rattle.xanadu_tree.specs.Plain as core
+use Rattle.typed_core.specs.Reached.{IsBefore, StandsIn}
 
 -- coefficients, each with its variable, and a constant
 abbrev terms_of : List (ℤ × ℕ) → List Term
@@ -169,6 +172,11 @@ OfMany = elaborated (source.many_variables 241) ≡ Err (Past limit.Places)
 abbrev OfPlaces : Type 0
 OfPlaces = (places_of (source.main_fun source.sum_of_cells) ≡ 4) × (places_of source.nested ≡ 4)
 
+-- in front of the `return` of `7 / x` the parameter has its type, and no row is known
+abbrev OfReturn : Type 0
+OfReturn = IsBefore source.divided 0 (core.Return (Some (source.two op.Div (core.Int (pos 7)) 33 (core.Var 0))) 24)
+    (record { ctx = record { vars = 1; rows = [] }; types = (0, ty.Int (v 0)) ∷ []; naming = []; goals = []; notes = [] })
+
 -- ---- they hold, by computation
 
 small_sources : OfSum × NotesOfSum × OfOneTooFar × OfNotStated × OfDivided × OfPairs × OfInnerClause × OfStores × OfCalls × OfBranchAssigns × OfEither × OfSearch × OfBoth × OfLargeRow × OfManyIndices × OfMany × OfPlaces
@@ -178,3 +186,21 @@ small_sources = (refl, refl, refl, refl, refl, refl, refl, refl, refl, refl, ref
 long_source : OfSquares
 unfolding elaborated functions function body_start few_declarations few_parts few_parameters closed_type closed_types signature signatures type_of forms_from types_from named_by named_by_operands named_by_links test_named tests_named statement_named statements_named statement block assigned split stored store done printed matched_result returning all_given meeting after_branches operand operands chained product divisor quotient remainder arithmetic bounds indexed measured allocated constructed returned called negated compared truth_leaf leaf tested all_true all_false changes changes_any renewed stated_types with_types leading first_past joined present index_at values_at entered entered_if still_visible with_fresh all_assumed assuming number all_asked demanding noting_state given tuple_at cell_at opened matching excess_of renamed renamed_type variables_from knows with_row with_rows unpacked subst_ty matched found_with pairs_of pair_of values_for value_for demanded type_rows index_rows differences own_rows sized replacement replaced_terms replaced_constant sum_terms plus_term scaled_terms
 long_source = (refl, refl)
+
+before_return : OfReturn
+unfolding body_start with_rows closed_types signatures signature type_of forms_from types_from sized StandsIn
+before_return = record {
+  table = _;
+  sigs = _;
+  f = _;
+  own = _;
+  goals = [];
+  notes = [];
+  start = _;
+  types = refl;
+  headers = refl;
+  function = refl;
+  signature = refl;
+  begins = refl;
+  stands = inl (refl, refl);
+}

@@ -8,4 +8,5 @@ pub mod Tests
 pub mod Joins
 pub mod Statements
 pub mod Goals
+pub mod Reached
 pub mod Proving

@@ -10,8 +10,8 @@ use xan_seq::Seq;
 pub enum Note {
     /// What is known at a place where control flow parts or meets. The places are the visible variables.
     State(StateType),
-    /// A way into the state that was noted last: the values of its new variables, by rising variable, and the goals among the rows
-    /// that it demands.
+    /// A way into a state where control flow meets: the values of that state's new variables, by rising variable, and the goals among
+    /// the rows that it demands.
     Edge {
         values: Seq<(u32, Form)>,
         goals: Seq<u32>,
