@@ -58,6 +58,7 @@ program_of f = record { types = []; funs = f ∷ []; main = 0 }
 --   }
 --   return s;
 -- }
+-- (the offsets of `+`, at which no goal arises, are those of this text also where the test or the clause is another)
 abbrev pub summing : Rel → Option Clause → (index_at : ℕ) → Program
 summing r head index_at = program_of (main_of (assuming 1 (var 0 ∷ [])) (array_of 0 ∷ []) (kind.Array 0 ∷ kind.Int ∷ kind.Int ∷ [])
     (AStmt (Set 1 (Int (pos 0)))
