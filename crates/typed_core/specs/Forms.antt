@@ -1,0 +1,80 @@
+-- Forms and types of a core, whose numbers are of any size, as those within the bounds.
+use Rattle.std.specs.Prelude.{ℕ, zero, suc, ℤ, pos, ◌-ℤ◌, List, [], ◌∷◌, ◌++◌, map, Option, Some, None, Result, Ok}
+use Rattle.xan_lin.specs.Linear.{Linear, sized, variable_form}
+use Rattle.xan_lin.specs.Subst.{subst_of}
+use Rattle.xan_lin.specs.Terms.{sum_terms, negated_terms}
+use Rattle.xan_lin.specs.declared.term.Term.{Term}
+use Rattle.xan_lin.specs.declared.term.TooLarge.{TooLarge}
+use Rattle.state_types.specs.Answers.{◌>>=◌}
+use Rattle.state_types.specs.Types.{subst_ty}
+use Rattle.state_types.specs.declared.types.Ty.{Ty}
+use Rattle.state_types.specs.declared.types.Ty.TheVariants as ty
+use Rattle.xanadu_tree.specs.declared.linear.Linear.{Linear as Exact}
+use Rattle.xanadu_tree.specs.declared.types.CoreTy.{CoreTy}
+use Rattle.xanadu_tree.specs.declared.types.CoreTy.TheVariants as core_ty
+use Rattle.typed_core.specs.Limits.{Walk, needed}
+
+abbrev pub term_of : ℤ × ℕ → Term
+term_of t = record { var = t.1; coef = t.0 }
+
+-- the form, where it is within the bounds
+abbrev pub form_of : Exact → Result Linear TooLarge
+form_of form = sized (map term_of form.terms) form.constant
+
+-- the type, where its index is
+unfoldable pub type_of : CoreTy → Result Ty TooLarge
+type_of (core_ty.Int form) = do
+  index ← form_of form
+  Ok (ty.Int index)
+type_of core_ty.Bool = Ok ty.Bool
+type_of (core_ty.Array element form) = do
+  index ← form_of form
+  Ok (ty.Array element index)
+type_of (core_ty.Named number) = Ok (ty.Named number)
+
+-- forms and types in order, behind those made so far
+unfoldable pub forms_from : List Exact → List Linear → Walk (List Linear)
+forms_from [] made = Ok made
+forms_from (form ∷ forms) made = do
+  one ← needed (form_of form)
+  forms_from forms (made ++ one ∷ [])
+
+unfoldable pub types_from : List CoreTy → List Ty → Walk (List Ty)
+types_from [] made = Ok made
+types_from (t ∷ ts) made = do
+  one ← needed (type_of t)
+  types_from ts (made ++ one ∷ [])
+
+-- ---- index variables of a core as variables of a state: those below `own` are themselves, and the others are listed
+
+unfoldable pub renamed : (naming : List (ℕ × Linear)) → (own : ℕ) → Exact → Result Linear TooLarge
+renamed naming own form = do
+  exact ← form_of form
+  subst_of naming own exact
+
+unfoldable pub renamed_type : (naming : List (ℕ × Linear)) → (own : ℕ) → CoreTy → Result Ty TooLarge
+renamed_type naming own t = do
+  exact ← type_of t
+  subst_ty naming own exact
+
+-- so many numbers from `number` on, each of which means the variable from `first` on in its turn
+unfoldable pub variables_from : (number first count : ℕ) → List (ℕ × Linear)
+variables_from number first zero = []
+variables_from number first (suc count) = (number, variable_form first) ∷ variables_from (suc number) (suc first) count
+
+-- ---- forms that rules make
+
+abbrev pub constant_form : ℤ → Linear
+constant_form n = record { terms = []; constant = n }
+
+-- e - f - 1, which is at least 0 exactly where f < e
+unfoldable pub excess_of : Linear → Linear → Result Linear TooLarge
+excess_of e f = sized (sum_terms e.terms (negated_terms f.terms)) ((e.constant -ℤ f.constant) -ℤ pos 1)
+
+-- the number that a form is, where it has no variable
+abbrev pub number_of : Linear → Option ℤ
+number_of form = number_with form.terms form.constant
+  where
+    number_with : List Term → ℤ → Option ℤ
+    number_with [] n = Some n
+    number_with (t ∷ ts) n = None

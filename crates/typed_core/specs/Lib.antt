@@ -1,0 +1,12 @@
+pub mod Limits
+pub mod Forms
+pub mod Places
+pub mod Headers
+pub mod States
+pub mod Operands
+pub mod Tests
+pub mod Joins
+pub mod Statements
+pub mod Goals
+pub mod Reached
+pub mod Proving

@@ -1,0 +1,17 @@
+//! What elaboration makes of a core: closed types, signatures, the goals that have to be proved, and notes of each state and demand; and
+//! the core of which all goals are proved.
+//!
+//! The definition of the goals of a core stands in `specs/`. [`Elaborated`] keeps that its parts are those of the definition, and
+//! [`Proved`] that each of its lists of lines proves the goal of its place. It stands on `xanadu_tree` for cores, on `state_types` for
+//! types and what matches demand, and on `proof_lines` for lines.
+#![tactic(auto)]
+
+mod elaborated;
+mod goal;
+mod note;
+mod proved;
+
+pub use crate::elaborated::Elaborated;
+pub use crate::goal::GoalAt;
+pub use crate::note::Note;
+pub use crate::proved::Proved;
