@@ -3,3 +3,6 @@ mod Examples
 pub mod Fitting
 pub mod TypeKinds
 pub mod FitMatches
+pub mod KnownTypes
+pub mod FitStates
+pub mod FitOperands
