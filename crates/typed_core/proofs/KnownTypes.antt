@@ -113,7 +113,7 @@ present_of kinds visible types x k knows among e =
     let entry = entry_at (IsEntry kinds visible) types x it.type knows.agree it.at in
     record { type = it.type; at = it.at; kind = same_Some k (ty_kind it.type) (sym e ∙ entry.1) }
 
-all_weaker : {A : Type 0} (P Q : A → Type 0) → ((x : A) → P x → Q x) → (xs : List A) → AllByRecursion P xs → AllByRecursion Q xs
+pub all_weaker : {A : Type 0} (P Q : A → Type 0) → ((x : A) → P x → Q x) → (xs : List A) → AllByRecursion P xs → AllByRecursion Q xs
 all_weaker P Q f [] h = tt
 all_weaker P Q f (x ∷ xs) h = (f x h.0, all_weaker P Q f xs h.1)
 

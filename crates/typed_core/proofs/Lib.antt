@@ -6,3 +6,5 @@ pub mod FitMatches
 pub mod KnownTypes
 pub mod FitStates
 pub mod FitOperands
+pub mod FitTests
+pub mod FitJoins
