@@ -8,3 +8,4 @@ pub mod FitStates
 pub mod FitOperands
 pub mod FitTests
 pub mod FitJoins
+pub mod FitStatements
