@@ -9,3 +9,4 @@ pub mod FitOperands
 pub mod FitTests
 pub mod FitJoins
 pub mod FitStatements
+pub mod FitPrograms
