@@ -1,6 +1,7 @@
 -- Where control flow meets: what is stated there keeps the kinds of the variables, and each way in gives what is wanted.
 use Rattle.std.proofs.Common.{◌≡◌, ℕ, suc, ◌+◌, List, [], ◌∷◌, ◌++◌, map, length, Bool as Truth, true, false, Option, Some, None, Result, Ok, Err, refl, sym, ap, subst, ◌∙◌, append_assoc}
 use Rattle.std.specs.Prelude.{slice_get}
+use Rattle.std.proofs.lemmas.List.{append-nil}
 use Rattle.std.specs.List.{AllByRecursion}
 use Rattle.xan_lin.specs.Linear.{Linear}
 use Rattle.xan_lin.specs.declared.term.TooLarge.{TooLarge}
@@ -21,7 +22,7 @@ use Rattle.typed_core.specs.Joins.{stated, renewed, stated_types, Joint, joined,
 use Rattle.typed_core.specs.Limits.{Walk, needed}
 use Rattle.typed_core.specs.States.{Site, State, resuming, with_fresh, assuming, noting_state, there, matching}
 use Rattle.typed_core.proofs.Fitting.{Anything, Fits, then_answers, weaker, needed_fits, there_fits}
-use Rattle.typed_core.proofs.TypeKinds.{ty_kind, HaveKindsOf, AreOfKinds, are_with, renamed_kind}
+use Rattle.typed_core.proofs.TypeKinds.{ty_kind, some_kind, HaveKindsOf, AreOfKinds, are_with, renamed_kind}
 use Rattle.typed_core.proofs.FitMatches.{matching_fits}
 use Rattle.typed_core.proofs.KnownTypes.{IsEntry, Knows, AreWithin, present_of, all_weaker, all_behind, HasIndex, IsIndexed, renews, knows_types}
 use Rattle.typed_core.proofs.FitStates.{with_fresh_fits, assuming_fits}
@@ -49,7 +50,7 @@ stated_fits kinds visible naming own [] made all done = record { is = done }
 stated_fits kinds visible naming own (s ∷ ss) made all done =
     then_answers (needed (renamed_type naming own s.1)) _ (needed_fits (renamed_type naming own s.1) (renamed_kind naming own s.1))
     (λ it e. stated_fits kinds visible naming own ss (made ++ (s.0, it) ∷ []) all.1
-    (all_behind (IsEntry kinds visible) made (s.0, it) done (all.0.0, all.0.1 ∙ ap (λ k. let o : Option Kind = Some k in o) e)))
+    (all_behind (IsEntry kinds visible) made (s.0, it) done (all.0.0, all.0.1 ∙ some_kind e)))
 
 -- ---- the state
 
@@ -100,12 +101,7 @@ module _ (kinds : List Kind) (visible inner : List ℕ) (within : AreWithin visi
   present_fits : (types : List (ℕ × Ty)) (ws : List (ℕ × Ty)) (ks : List Kind) (made : List Ty) → Knows kinds inner types → AllByRecursion (IsEntry kinds visible) ws
       → AreOfKinds ks made → Fits (AreOfKinds (ks ++ map (λ w. ty_kind w.1) ws)) (present types ws made)
   unfolding present
-  present_fits types [] ks made knows all are = record { is = nothing_behind ks made are }
-    where
-      nothing_behind : (js : List Kind) (ts : List Ty) → AreOfKinds js ts → AreOfKinds (js ++ []) ts
-      nothing_behind [] ts h = h
-      nothing_behind (j ∷ js) [] h = absurd h
-      nothing_behind (j ∷ js) (t ∷ ts) h = (h.0, nothing_behind js ts h.1)
+  present_fits types [] ks made knows all are = record { is = subst (λ js. AreOfKinds js made) (sym (append-nil ks)) are }
   present_fits types (w ∷ ws) ks made knows all are =
       let it = present_of kinds inner types w.0 (ty_kind w.1) knows (within w.0 all.0.0) all.0.1 in
       then_answers (there (type_at w.0 types)) _ (there_fits {P = λ t. ty_kind w.1 ≡ ty_kind t} (type_at w.0 types) it.type it.at it.kind)

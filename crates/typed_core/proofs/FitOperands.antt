@@ -1,6 +1,7 @@
 -- An expression of a kind has a type of that kind, or is stopped by a limit.
 use Rattle.std.proofs.Common.{◌≡◌, ℕ, zero, suc, ℤ, pos, negsuc, List, [], ◌∷◌, ◌++◌, map, Option, Some, None, Result, Ok, Err, refl, sym, ap, subst, ◌∙◌, append_assoc}
 use Rattle.std.specs.Prelude.{slice_get}
+use Rattle.std.proofs.lemmas.List.{append-nil}
 use Rattle.xan_lin.specs.Linear.{Linear, sized, variable_form, sum_of, difference_of, product_of}
 use Rattle.xan_lin.specs.Subst.{subst_of, zero_form}
 use Rattle.state_types.specs.Answers.{◌>>=◌}
@@ -177,11 +178,6 @@ module _ (K : List (ℕ × Ty) → Type 0) where
 abbrev pub HasIt : Setting → (visible : List ℕ) → Kind → Ty × State → Type 0
 HasIt set visible k r = IsOfKind k r.0 × Knows set.kinds visible r.1.types
 
-all_in_front : (ks : List Kind) (ts : List Ty) → AreOfKinds ks ts → AreOfKinds (ks ++ []) ts
-all_in_front [] ts h = h
-all_in_front (k ∷ ks) [] h = absurd h
-all_in_front (k ∷ ks) (t ∷ ts) h = (h.0, all_in_front ks ts h.1)
-
 module _ (set : Setting) (site : Site) (suits : Suits set site) (visible : List ℕ) where
   mutual
     unfolding operand HasKind
@@ -229,7 +225,7 @@ module _ (set : Setting) (site : Site) (suits : Suits set site) (visible : List 
     -- behind those made so far
     operands_fits : (es : core.Exprs) (ks made : List Kind) (types : List Ty) (st : State) → HaveKinds set visible es ks → AreOfKinds made types
         → Knows set.kinds visible st.types → Fits (λ r. AreOfKinds (made ++ ks) r.0 × Knows set.kinds visible r.1.types) (operands site es types st)
-    operands_fits core.NoExpr [] made types st h are knows = record { is = (all_in_front made types are, knows) }
+    operands_fits core.NoExpr [] made types st h are knows = record { is = (subst (λ js. AreOfKinds js types) (sym (append-nil made)) are, knows) }
     operands_fits core.NoExpr (k ∷ ks) made types st h are knows = absurd h
     operands_fits (core.AnExpr e es) [] made types st h are knows = absurd h
     operands_fits (core.AnExpr e es) (k ∷ ks) made types st h are knows =

@@ -32,7 +32,7 @@ use Rattle.typed_core.specs.Places.{places_of}
 use Rattle.typed_core.specs.States.{Site, State, there, only_tuple, tuple_at, cell_with, cell_at}
 use Rattle.typed_core.specs.Statements.{block}
 use Rattle.typed_core.proofs.Fitting.{Anything, Fits, Behind, then_answers, weaker, any_answer, needed_fits, context_fits, there_fits, within_fits, behind_none, behind_one}
-use Rattle.typed_core.proofs.TypeKinds.{ty_kind, HaveKindsOf, IsOfKind, type_kind}
+use Rattle.typed_core.proofs.TypeKinds.{ty_kind, some_kind, HaveKindsOf, IsOfKind, type_kind}
 use Rattle.typed_core.proofs.KnownTypes.{IsListed, IsEntry, Knows, all_weaker}
 use Rattle.typed_core.proofs.FitStates.{rows_full}
 use Rattle.typed_core.proofs.FitOperands.{IsCell, IsTuple, IsCallee, Suits}
@@ -312,7 +312,7 @@ start_knows kinds low (c ∷ cs) (t ∷ ts) from have =
     record {
       there = one_more low t visible (enumerate_from (low + 1) ts) rest.there;
       agree = (
-        (inl refl, from.0 ∙ ap (λ k. let o : Option Kind = Some k in o) have.0),
+        (inl refl, from.0 ∙ some_kind have.0),
         all_weaker (IsEntry kinds visible) (IsEntry kinds (low ∷ visible)) (λ e h. (inr h.0, h.1)) (enumerate_from (low + 1) ts) rest.agree,
       );
     }

@@ -21,7 +21,7 @@ use Rattle.typed_core.specs.States.{Site, State, resuming, demanding, noting_sta
 use Rattle.typed_core.specs.Statements.{assigned, all_given, split, stored, store, done, printed, matched_result, returning, Branches, meeting, after_branches, other_branch, statement, block}
 use Rattle.typed_core.specs.Tests.{tested, on_side}
 use Rattle.typed_core.proofs.Fitting.{Anything, Fits, then_answers, weaker}
-use Rattle.typed_core.proofs.TypeKinds.{ty_kind, HaveKindsOf, IsOfKind, number_fits, array_fits, tuple_fits}
+use Rattle.typed_core.proofs.TypeKinds.{ty_kind, some_kind, HaveKindsOf, IsOfKind, number_fits, array_fits, tuple_fits}
 use Rattle.typed_core.proofs.FitMatches.{matching_fits}
 use Rattle.typed_core.proofs.KnownTypes.{Knows, AreWithin, knows_same, given_fits, knows_still}
 use Rattle.typed_core.proofs.FitStates.{demanding_keeps, opened_fits}
@@ -108,7 +108,7 @@ given_of kinds [] (p ∷ ps) ts all have = absurd all
 given_of kinds (x ∷ xs) [] ts all have = absurd all
 given_of kinds (x ∷ xs) (p ∷ ps) [] all have = absurd have
 given_of kinds (x ∷ xs) (p ∷ ps) (t ∷ ts) all have =
-    (all.0 ∙ ap (λ k. let o : Option Kind = Some k in o) have.0, given_of kinds xs ps ts all.1 have.1)
+    (all.0 ∙ some_kind have.0, given_of kinds xs ps ts all.1 have.1)
 
 all_given_fits : (kinds : List Kind) (visible : List ℕ) (xs : List ℕ) (ts : List Ty) (st : State) → Knows kinds visible st.types → AreGiven kinds xs ts
     → Fits (λ more. Knows kinds (xs ++ visible) more.types) (all_given xs ts st)
@@ -133,7 +133,7 @@ module _ (set : Setting) (site : Site) (suits : Suits set site) (before : Point)
   assigned_fits x e k st after h value at target knows =
       then_answers (operand site e st) _ (operand_fits set site suits before.visible e k st h knows)
       (λ r g. weaker (given x r.0 r.1) (λ more l. knows_target set.kinds before x after more.types target l)
-      (given_fits set.kinds before.visible x r.0 r.1 g.1 (at ∙ ap (λ j. let o : Option Kind = Some j in o) (g.0 value))))
+      (given_fits set.kinds before.visible x r.0 r.1 g.1 (at ∙ some_kind (g.0 value))))
 
   split_fits : (xs : List ℕ) (e : core.Expr) (number : ℕ) (packing : Packing) (st : State) (after : Point) → HasKind set before.visible e (kind.Named number)
       → tuple_type set.types number ≡ Some packing → IsSplit set before xs packing.parts after → KnowsAt set before st → Fits (KnowsAt set after) (split site xs e st)

@@ -1,5 +1,6 @@
 -- Answers that a limit stops at most: what is wanted of a value, carried from one part of a chain to the next.
 use Rattle.std.proofs.Common.{◌≡◌, ℕ, List, [], ◌∷◌, ◌++◌, Bool as Truth, true, false, cond, nat_lt, Option, Some, None, Result, Ok, Err, refl, sym, ap, subst, ◌∙◌, append_assoc}
+use Rattle.std.proofs.lemmas.List.{append-nil}
 use Rattle.index_sorts.specs.declared.error.ContextError.{ContextError}
 use Rattle.index_sorts.specs.declared.error.ContextError.TheVariants as context_error
 use Rattle.xan_lin.specs.declared.term.LimitKind.{LimitKind}
@@ -93,13 +94,9 @@ pub record Behind {A : Type 0} (made : List A) (P : List A → Type 0) (all : Li
   pub is : all ≡ made ++ rest
   pub holds : P rest
 
-nothing_more : {A : Type 0} (xs : List A) → xs ≡ xs ++ []
-nothing_more [] = refl
-nothing_more (x ∷ xs) = ap (λ ys. x ∷ ys) (nothing_more xs)
-
 module _ {A : Type 0} where
   pub behind_none : (made : List A) (P : List A → Type 0) → P [] → Behind made P made
-  behind_none made P p = record { rest = []; is = nothing_more made; holds = p }
+  behind_none made P p = record { rest = []; is = sym (append-nil made); holds = p }
 
   pub behind_one : (made : List A) (x : A) (P R : List A → Type 0) (all : List A) → ((rest : List A) → P rest → R (x ∷ rest)) → Behind (made ++ x ∷ []) P all → Behind made R all
   behind_one made x P R all f b = record { rest = x ∷ b.rest; is = b.is ∙ append_assoc made (x ∷ []) b.rest; holds = f b.rest b.holds }

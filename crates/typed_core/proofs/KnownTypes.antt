@@ -18,7 +18,7 @@ use Rattle.typed_core.specs.Joins.{with_index, Renewed, has_index, is_named, is_
 use Rattle.typed_core.specs.Limits.{Walk, Misfit}
 use Rattle.typed_core.specs.States.{State, like, given}
 use Rattle.typed_core.proofs.Fitting.{Fits, Anything, then_answers}
-use Rattle.typed_core.proofs.TypeKinds.{ty_kind, like_kinds}
+use Rattle.typed_core.proofs.TypeKinds.{ty_kind, some_kind, like_kinds}
 
 -- ---- lists of types
 
@@ -258,7 +258,7 @@ renews_entry kinds visible IsWanted true first e made index entry r =
     record {
       there = λ x h. listed_by IsWanted made.types e (e.0, with_index e.1 form) x refl r.there h;
       agree = all_behind (IsEntry kinds visible) made.types (e.0, with_index e.1 form) r.agree
-          (entry.0, entry.1 ∙ ap (λ k. let o : Option Kind = Some k in o) (index_kind e.1 form));
+          (entry.0, entry.1 ∙ some_kind (index_kind e.1 form));
       indexed = all_behind (IsIndexed kinds visible) made.others e.0 r.indexed
           (record { kind = ty_kind e.1; among = entry.0; is = entry.1; index = has_an_index e.1 (index refl) });
     }

@@ -1,5 +1,5 @@
 -- The kinds of types of a state, and what a type of a kind answers.
-use Rattle.std.proofs.Common.{◌≡◌, ℕ, List, [], ◌∷◌, ◌++◌, ◌==◌, length, map, Bool as Truth, true, false, cond, Result, Ok, Err, refl, sym, ap, subst, ◌∙◌, arith, eq-eqb}
+use Rattle.std.proofs.Common.{◌≡◌, ℕ, List, [], ◌∷◌, ◌++◌, ◌==◌, length, map, Bool as Truth, true, false, cond, Option, Some, Result, Ok, Err, refl, sym, ap, subst, ◌∙◌, arith, eq-eqb}
 use Rattle.xan_lin.specs.Linear.{Linear}
 use Rattle.xan_lin.specs.Subst.{subst_of}
 use Rattle.xan_lin.specs.declared.term.TooLarge.{TooLarge}
@@ -41,6 +41,9 @@ AreOfKinds [] [] = Unit {0}
 AreOfKinds [] (t ∷ ts) = ⊥
 AreOfKinds (k ∷ ks) [] = ⊥
 AreOfKinds (k ∷ ks) (t ∷ ts) = IsOfKind k t × AreOfKinds ks ts
+
+pub some_kind : {j k : Kind} → j ≡ k → ◌≡◌ {A = Option Kind} (Some j) (Some k)
+some_kind e = ap (λ k. let o : Option Kind = Some k in o) e
 
 pub have_value : (t : Ty) → IsValue (ty_kind t)
 have_value (ty.Int e) = tt
