@@ -1,11 +1,10 @@
 -- Where control flow meets: what is stated there keeps the kinds of the variables, and each way in gives what is wanted.
-use Rattle.std.proofs.Common.{◌≡◌, ℕ, suc, ◌+◌, List, [], ◌∷◌, ◌++◌, map, length, Bool as Truth, true, false, Option, Some, None, Result, Ok, Err, refl, sym, ap, subst, ◌∙◌, append_assoc}
+use Rattle.std.proofs.Common.{◌≡◌, ℕ, suc, ◌+◌, List, [], ◌∷◌, ◌++◌, map, length, Bool as Truth, true, false, Option, Some, None, refl, sym, ap, subst, ◌∙◌, append_assoc}
 use Rattle.std.specs.Prelude.{slice_get}
 use Rattle.std.proofs.lemmas.List.{append-nil}
 use Rattle.std.specs.List.{AllByRecursion}
 use Rattle.xan_lin.specs.Linear.{Linear}
 use Rattle.xan_lin.specs.declared.term.TooLarge.{TooLarge}
-use Rattle.state_types.specs.Answers.{◌>>=◌}
 use Rattle.state_types.specs.PlaceTypes.{type_at}
 use Rattle.state_types.specs.Types.{index_of}
 use Rattle.state_types.specs.declared.types.Ty.{Ty}
@@ -13,13 +12,12 @@ use Rattle.state_types.specs.declared.types.Ty.TheVariants as ty
 use Rattle.xanadu_tree.specs.declared.stmt.Clause.{Clause}
 use Rattle.xanadu_tree.specs.declared.types.CoreTy.{CoreTy}
 use Rattle.xanadu_tree.specs.declared.types.Kind.{Kind}
-use Rattle.xanadu_tree.specs.declared.types.Kind.TheVariants as kind
-use Rattle.xanadu_tree.specs.BodyRules.{Point, IsStated, IsClause, IsClauseIfAny, stating}
+use Rattle.xanadu_tree.specs.BodyRules.{Point, IsStated, IsClauseIfAny}
 use Rattle.xanadu_tree.specs.IndexRules.{stretch_of}
 use Rattle.xanadu_tree.specs.KindRules.{kind_of, Setting, IsAmong}
 use Rattle.typed_core.specs.Forms.{renamed, renamed_type, variables_from}
 use Rattle.typed_core.specs.Joins.{stated, renewed, stated_types, Joint, joined, present, within_bounds, index_at, values_at, entered, entered_if}
-use Rattle.typed_core.specs.Limits.{Walk, needed}
+use Rattle.typed_core.specs.Limits.{needed}
 use Rattle.typed_core.specs.States.{Site, State, resuming, with_fresh, assuming, noting_state, there, matching}
 use Rattle.typed_core.proofs.Fitting.{Anything, Fits, then_answers, weaker, needed_fits, there_fits}
 use Rattle.typed_core.proofs.TypeKinds.{ty_kind, some_kind, HaveKindsOf, AreOfKinds, are_with, renamed_kind}
@@ -75,10 +73,12 @@ joined_fits kinds visible site clause changed before latest all knows =
     then_answers (with_fresh (count + length kept.others) start) _ (with_fresh_fits (λ ts. Unit {0}) (count + length kept.others) start tt)
     (λ fresh u. then_answers (assuming rows fresh) _ (assuming_fits (λ ts. Unit {0}) rows fresh tt)
     (λ known v. then_answers (stated_types naming site.own.vars clause.vars []) _ (stated_fits kinds visible naming site.own.vars clause.vars [] all tt)
-    (λ wanted h. record { is = (
-      record { wanted = h; others = r.indexed },
-      knows_types kinds visible wanted kept.types h (record { there = r.there; agree = r.agree }),
-    ) })))
+    (λ wanted h. record {
+      is = (
+        record { wanted = h; others = r.indexed },
+        knows_types kinds visible wanted kept.types h (record { there = r.there; agree = r.agree }),
+      );
+    })))
 
 -- ---- the ways into it
 

@@ -1,17 +1,16 @@
 -- A match of types of the wanted kinds stops at a limit at most.
-use Rattle.std.proofs.Common.{◌≡◌, ℕ, suc, ◌-◌, List, [], ◌∷◌, ◌++◌, ◌==◌, length, Bool as Truth, true, false, cond, Option, Some, None, Result, Ok, Err, refl, sym, ap, subst, ◌∙◌, eq-eqb}
+use Rattle.std.proofs.Common.{◌≡◌, ℕ, suc, ◌-◌, List, [], ◌∷◌, ◌++◌, ◌==◌, length, Bool as Truth, true, false, cond, Option, Some, None, Result, Ok, Err, eq-eqb}
 use Rattle.index_sorts.specs.Known.{same_form}
 use Rattle.xan_lin.specs.Linear.{Linear, difference_of}
 use Rattle.xan_lin.specs.Subst.{subst_of}
 use Rattle.xan_lin.specs.declared.term.TooLarge.{TooLarge}
-use Rattle.state_types.specs.Answers.{Check, ◌>>=◌, within_bounds}
+use Rattle.state_types.specs.Answers.{Check, within_bounds}
 use Rattle.state_types.specs.Matching.{pair_of, pairs_of, values_for, both_differences, differences, index_rows, type_rows, own_rows, demanded, found_with, matched}
 use Rattle.state_types.specs.Types.{index_of, same_kind}
-use Rattle.state_types.specs.declared.error.StateError.TheVariants as state_error
 use Rattle.state_types.specs.declared.matching.Found.{Found}
 use Rattle.state_types.specs.declared.types.Ty.{Ty}
 use Rattle.xanadu_tree.specs.declared.types.Kind.{Kind}
-use Rattle.typed_core.specs.Limits.{Walk, Misfit, met}
+use Rattle.typed_core.specs.Limits.{Misfit, met}
 use Rattle.typed_core.specs.States.{matching}
 use Rattle.typed_core.proofs.Fitting.{Answers, Anything, Fits, IsLarge, then_answers, met_fits}
 use Rattle.typed_core.proofs.TypeKinds.{ty_kind, HaveKindsOf, AreOfKinds, wanted_kind, like_kinds, as_many}

@@ -1,28 +1,26 @@
 -- An expression of a kind has a type of that kind, or is stopped by a limit.
-use Rattle.std.proofs.Common.{◌≡◌, ℕ, zero, suc, ℤ, pos, negsuc, List, [], ◌∷◌, ◌++◌, map, Option, Some, None, Result, Ok, Err, refl, sym, ap, subst, ◌∙◌, append_assoc}
+use Rattle.std.proofs.Common.{◌≡◌, ℕ, ℤ, pos, List, [], ◌∷◌, ◌++◌, map, Option, Some, None, Ok, refl, sym, subst, ◌∙◌, append_assoc}
 use Rattle.std.specs.Prelude.{slice_get}
 use Rattle.std.proofs.lemmas.List.{append-nil}
 use Rattle.xan_lin.specs.Linear.{Linear, sized, variable_form, sum_of, difference_of, product_of}
 use Rattle.xan_lin.specs.Subst.{subst_of, zero_form}
-use Rattle.state_types.specs.Answers.{◌>>=◌}
 use Rattle.state_types.specs.PlaceTypes.{type_at}
 use Rattle.state_types.specs.Types.{subst_ty}
 use Rattle.state_types.specs.declared.closed.Packed.{Packed}
 use Rattle.state_types.specs.declared.closed.Signature.{Signature}
 use Rattle.state_types.specs.declared.types.Ty.{Ty}
-use Rattle.state_types.specs.declared.types.Ty.TheVariants as ty
 use Rattle.xanadu_tree.specs.declared.expr.Op.{Op}
 use Rattle.xanadu_tree.specs.declared.expr.Op.TheVariants as op
 use Rattle.xanadu_tree.specs.declared.types.Kind.{Kind}
 use Rattle.xanadu_tree.specs.declared.types.Kind.TheVariants as kind
 use Rattle.xanadu_tree.specs.declared.types.Packing.{Packing}
-use Rattle.xanadu_tree.specs.KindRules.{kind_of, IsValue, tuple_type, cell_kind, Header, Setting, IsAmong, HasKind, AreNumbers, HaveKinds}
+use Rattle.xanadu_tree.specs.KindRules.{kind_of, tuple_type, cell_kind, Header, Setting, HasKind, AreNumbers, HaveKinds}
 use Rattle.xanadu_tree.specs.Plain as core
 use Rattle.typed_core.specs.Forms.{constant_form, excess_of, number_of, variables_from}
 use Rattle.typed_core.specs.Limits.{Walk, needed}
 use Rattle.typed_core.specs.Operands.{product, quotient_rows, divisor, quotient, remainder, arithmetic, bounds, indexed, measured, allocated, constructed, returned, called, of_number, negated, operand, operands, chained}
 use Rattle.typed_core.specs.States.{Site, State, with_fresh, assuming, number, demanding, there, as_number, as_array, tuple_at, cell_at, opened, first_part, matching}
-use Rattle.typed_core.proofs.Fitting.{Answers, Anything, Fits, then_answers, weaker, any_answer, needed_fits, there_fits}
+use Rattle.typed_core.proofs.Fitting.{Anything, Fits, then_answers, weaker, any_answer, needed_fits, there_fits}
 use Rattle.typed_core.proofs.TypeKinds.{ty_kind, HaveKindsOf, IsOfKind, AreOfKinds, are_with, number_fits, array_fits, subst_kind}
 use Rattle.typed_core.proofs.FitMatches.{matching_fits}
 use Rattle.typed_core.proofs.KnownTypes.{Knows, present_of}

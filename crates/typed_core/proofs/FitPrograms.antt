@@ -1,6 +1,6 @@
 -- A core that keeps the rules of a core is elaborated, or stopped by a limit.
-use Rattle.std.proofs.Common.{◌≡◌, ◌≢◌, ℕ, zero, suc, ◌+◌, List, [], ◌∷◌, ◌++◌, map, length, take, Bool as Truth, true, false, cond, Option, Some, None, Result, Ok, Err, refl, sym, ap, subst, ◌∙◌, inl, inr, arith}
-use Rattle.std.specs.Prelude.{◌⊎◌, slice_get}
+use Rattle.std.proofs.Common.{◌≡◌, ◌≢◌, ℕ, zero, suc, ◌+◌, List, [], ◌∷◌, ◌++◌, map, length, take, Bool as Truth, true, false, cond, Option, Some, None, Ok, Err, refl, sym, ap, subst, ◌∙◌, inl, inr, arith}
+use Rattle.std.specs.Prelude.{slice_get}
 use Rattle.std.specs.Option.{option_and_then}
 use Rattle.std.specs.List.{AllByRecursion, enumerate_from, range_with_len}
 use Rattle.std.proofs.lemmas.Option.{same_Some}
@@ -18,18 +18,18 @@ use Rattle.xanadu_tree.specs.declared.types.CoreTy.{CoreTy}
 use Rattle.xanadu_tree.specs.declared.types.Kind.{Kind}
 use Rattle.xanadu_tree.specs.declared.types.Kind.TheVariants as kind
 use Rattle.xanadu_tree.specs.declared.types.Packing.{Packing}
-use Rattle.xanadu_tree.specs.KindRules.{kind_of, IsValue, if_tuple, first_kind, held_kind, cell_kind, tuple_type, gives_value, result_kind, Header, header, Setting, IsAmong}
+use Rattle.xanadu_tree.specs.KindRules.{kind_of, if_tuple, first_kind, held_kind, cell_kind, tuple_type, gives_value, Header, header, IsAmong}
 use Rattle.xanadu_tree.specs.Shaped.{Shaped, HasParts, IsPacking, IsFunction, setting}
 use Rattle.xanadu_tree.specs.Shaped as shaped
 use Rattle.xanadu_tree.specs.Plain as core
 use Rattle.typed_core.specs.declared.goal.GoalAt.{GoalAt}
 use Rattle.typed_core.specs.declared.note.Note.{Note}
 use Rattle.typed_core.specs.Forms.{form_of, type_of, forms_from, types_from}
-use Rattle.typed_core.specs.Goals.{Elaboration, body_start, function, functions, elaborated}
+use Rattle.typed_core.specs.Goals.{body_start, function, functions, elaborated}
 use Rattle.typed_core.specs.Headers.{few_parts, few_parameters, few_declarations, closed_type, closed_types, signature, signatures}
-use Rattle.typed_core.specs.Limits.{Stop, Past, Misfit, Walk, within, needed, in_context}
+use Rattle.typed_core.specs.Limits.{Past, Misfit, Walk, within, needed, in_context}
 use Rattle.typed_core.specs.Places.{places_of}
-use Rattle.typed_core.specs.States.{Site, State, there, only_tuple, tuple_at, cell_with, cell_at}
+use Rattle.typed_core.specs.States.{Site, there, only_tuple, tuple_at, cell_with, cell_at}
 use Rattle.typed_core.specs.Statements.{block}
 use Rattle.typed_core.proofs.Fitting.{Anything, Fits, Behind, then_answers, weaker, any_answer, needed_fits, context_fits, there_fits, within_fits, behind_none, behind_one}
 use Rattle.typed_core.proofs.TypeKinds.{ty_kind, some_kind, HaveKindsOf, IsOfKind, type_kind}
@@ -351,8 +351,8 @@ module _ (types : List Packing) (packings : AllByRecursion (IsPacking types) typ
       (λ own own_signed. then_answers (within limit.Places (places_of f)) _ (within_fits limit.Places (places_of f))
       (λ few u. then_answers (body_start own goals notes) _ (start_fits types (map header funs) f is own own_signed goals notes)
       (λ start knows. let site : Site = record { table = table_with cs; sigs = sigs; fun = fun; own = own } in
-          weaker (block site f.body start) (λ st k. tt)
-          (block_fits (setting types (map header funs) f) site (suits_of fun f own is own_signed) f.body (shaped.body_start f) is.end start is.body knows))))
+      weaker (block site f.body start) (λ st k. tt)
+      (block_fits (setting types (map header funs) f) site (suits_of fun f own is own_signed) f.body (shaped.body_start f) is.end start is.body knows))))
 
   functions_fit : (fs : List core.Fun) (fun : ℕ) (goals : List GoalAt) (notes : List Note) → AllByRecursion (IsFunction types (map header funs)) fs
       → ((i : ℕ) (f : core.Fun) → slice_get fs i ≡ Some f → SignedAt sigs (fun + i) f) → Fits Anything (functions (table_with cs) sigs fun fs goals notes)

@@ -1,10 +1,8 @@
 -- Statements of a core leave each visible variable a type of its kind, or are stopped by a limit.
-use Rattle.std.proofs.Common.{◌≡◌, ℕ, ◌+◌, List, [], ◌∷◌, ◌++◌, map, length, Bool as Truth, true, false, Option, Some, None, Result, Ok, Err, refl, sym, ap, subst, ◌∙◌, inl, inr}
-use Rattle.std.specs.Prelude.{◌⊎◌, ◌||◌, slice_get}
+use Rattle.std.proofs.Common.{◌≡◌, ℕ, ◌+◌, List, [], ◌∷◌, ◌++◌, map, length, Bool as Truth, true, false, Option, Some, None, refl, sym, ap, subst, ◌∙◌, inl, inr}
+use Rattle.std.specs.Prelude.{◌||◌, slice_get}
 use Rattle.std.specs.List.{AllByRecursion, AllZip, range_with_len}
-use Rattle.xan_lin.specs.Linear.{Linear}
 use Rattle.xan_lin.specs.Subst.{zero_form}
-use Rattle.state_types.specs.Answers.{◌>>=◌}
 use Rattle.state_types.specs.declared.types.Ty.{Ty}
 use Rattle.state_types.specs.declared.types.Ty.TheVariants as ty
 use Rattle.xanadu_tree.specs.declared.stmt.Clause.{Clause}
@@ -12,12 +10,12 @@ use Rattle.xanadu_tree.specs.declared.types.CoreTy.{CoreTy}
 use Rattle.xanadu_tree.specs.declared.types.Kind.{Kind}
 use Rattle.xanadu_tree.specs.declared.types.Kind.TheVariants as kind
 use Rattle.xanadu_tree.specs.declared.types.Packing.{Packing}
-use Rattle.xanadu_tree.specs.BodyRules.{Point, declaring, behind_block, IsClauseIfAny, completes_all, IsTarget, IsSplit, IsReturn, IsStatement, AreStatements}
+use Rattle.xanadu_tree.specs.BodyRules.{Point, behind_block, completes_all, IsTarget, IsSplit, IsReturn, IsStatement, AreStatements}
 use Rattle.xanadu_tree.specs.KindRules.{kind_of, IsValue, tuple_type, Setting, IsAmong, HasKind}
 use Rattle.xanadu_tree.specs.Plain as core
 use Rattle.typed_core.specs.Joins.{changes_any, stated, joined, entered, entered_if}
 use Rattle.typed_core.specs.Operands.{operand, bounds}
-use Rattle.typed_core.specs.States.{Site, State, resuming, demanding, noting_state, as_number, as_array, as_tuple, given, tuple_at, cell_at, opened, matching}
+use Rattle.typed_core.specs.States.{Site, State, noting_state, as_number, as_array, as_tuple, given, tuple_at, cell_at, opened, matching}
 use Rattle.typed_core.specs.Statements.{assigned, all_given, split, stored, store, done, printed, matched_result, returning, Branches, meeting, after_branches, other_branch, statement, block}
 use Rattle.typed_core.specs.Tests.{tested, on_side}
 use Rattle.typed_core.proofs.Fitting.{Anything, Fits, then_answers, weaker}

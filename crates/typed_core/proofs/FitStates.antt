@@ -1,5 +1,5 @@
 -- What is taken to hold, demanded and noted changes no type, and stops at a limit at most.
-use Rattle.std.proofs.Common.{◌≡◌, ℕ, ◌+◌, List, [], ◌∷◌, map, length, nat_lt, Bool as Truth, true, false, cond, Result, Ok, Err, refl}
+use Rattle.std.proofs.Common.{◌≡◌, ℕ, ◌+◌, List, [], ◌∷◌, map, length, nat_lt, Bool as Truth, true, false, cond, Result, Ok, Err}
 use Rattle.std.specs.Prelude.{nat_le}
 use Rattle.index_sorts.specs.Context.{IndexContext, fresh_from, with_variables}
 use Rattle.index_sorts.specs.Known.{knows, with_row}
@@ -7,12 +7,11 @@ use Rattle.index_sorts.specs.declared.error.ContextError.{ContextError}
 use Rattle.index_sorts.specs.declared.error.ContextError.TheVariants as context_error
 use Rattle.xan_lin.specs.Linear.{Linear}
 use Rattle.xan_lin.specs.declared.term.TooLarge.{TooLarge}
-use Rattle.state_types.specs.Answers.{◌>>=◌}
 use Rattle.state_types.specs.Unpacking.{shifted, with_rows, unpacked}
 use Rattle.state_types.specs.declared.closed.Packed.{Packed}
 use Rattle.state_types.specs.declared.types.Ty.{Ty}
 use Rattle.xanadu_tree.specs.declared.types.Kind.{Kind}
-use Rattle.typed_core.specs.Limits.{Walk, in_context}
+use Rattle.typed_core.specs.Limits.{in_context}
 use Rattle.typed_core.specs.States.{Site, State, with_fresh, assumed, all_assumed, assuming, number, demanding, noting_state, opened, first_part}
 use Rattle.typed_core.proofs.Fitting.{Answers, Anything, Fits, IsFull, then_answers, context_fits}
 use Rattle.typed_core.proofs.TypeKinds.{ty_kind, HaveKindsOf, shifted_kinds}

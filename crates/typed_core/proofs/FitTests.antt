@@ -1,10 +1,8 @@
 -- A test is stopped by a limit at most, and leaves the types as they are.
-use Rattle.std.proofs.Common.{◌≡◌, ℕ, List, [], ◌∷◌, Result, Ok, Err, refl}
+use Rattle.std.proofs.Common.{ℕ, List}
 use Rattle.xan_lin.specs.Linear.{Linear}
-use Rattle.state_types.specs.Answers.{◌>>=◌}
 use Rattle.state_types.specs.declared.types.Ty.{Ty}
 use Rattle.xanadu_tree.specs.declared.expr.Rel.{Rel}
-use Rattle.xanadu_tree.specs.declared.types.Kind.{Kind}
 use Rattle.xanadu_tree.specs.declared.types.Kind.TheVariants as kind
 use Rattle.xanadu_tree.specs.KindRules.{Setting, HasKind, IsTest, AreTests}
 use Rattle.xanadu_tree.specs.Plain as core

@@ -1,5 +1,5 @@
 -- The types that are known of the visible variables, and what keeps them.
-use Rattle.std.proofs.Common.{◌≡◌, ℕ, zero, suc, ◌+◌, List, [], ◌∷◌, ◌++◌, ◌==◌, nat_lt, length, map, Bool as Truth, true, false, cond, Option, Some, None, Ok, Err, refl, sym, ap, subst, ◌∙◌, inl, inr, eq-eqb}
+use Rattle.std.proofs.Common.{◌≡◌, ℕ, ◌+◌, List, [], ◌∷◌, ◌++◌, ◌==◌, nat_lt, length, Bool as Truth, true, false, cond, Option, Some, None, Ok, Err, refl, sym, ap, subst, ◌∙◌, inl, inr, eq-eqb}
 use Rattle.std.specs.Prelude.{◌⊎◌, slice_get, ◌&&◌, not}
 use Rattle.std.specs.List.{AllByRecursion}
 use Rattle.std.proofs.lemmas.Bool.{eqb-true}
@@ -7,7 +7,7 @@ use Rattle.std.proofs.lemmas.Option.{same_Some}
 use Rattle.xan_lin.specs.Linear.{Linear, variable_form}
 use Rattle.xan_lin.proofs.Booleans.{both}
 use Rattle.state_types.specs.PlaceTypes.{type_at, with_type}
-use Rattle.state_types.specs.Types.{same_kind, index_of}
+use Rattle.state_types.specs.Types.{same_kind}
 use Rattle.state_types.specs.declared.types.Ty.{Ty}
 use Rattle.state_types.specs.declared.types.Ty.TheVariants as ty
 use Rattle.xanadu_tree.specs.declared.types.CoreTy.{CoreTy}
@@ -17,7 +17,7 @@ use Rattle.xanadu_tree.specs.KindRules.{IsAmong}
 use Rattle.typed_core.specs.Joins.{with_index, Renewed, has_index, is_named, is_renewed, with_entry, renewed, with_types, type_or, still_visible}
 use Rattle.typed_core.specs.Limits.{Walk, Misfit}
 use Rattle.typed_core.specs.States.{State, like, given}
-use Rattle.typed_core.proofs.Fitting.{Fits, Anything, then_answers}
+use Rattle.typed_core.proofs.Fitting.{Fits, then_answers}
 use Rattle.typed_core.proofs.TypeKinds.{ty_kind, some_kind, like_kinds}
 
 -- ---- lists of types
@@ -290,5 +290,5 @@ pub renews : (kinds : List Kind) (visible : List ℕ) (changed : ℕ → Truth) 
     → Renews kinds visible (IsAmong visible) (renewed changed vars first types (record { types = []; others = [] }))
 renews kinds visible changed vars first types knows =
     let all = renews_all kinds visible changed vars first (λ x. ⊥) types (record { types = []; others = [] }) knows.agree
-        (record { there = λ x h. absurd h; agree = tt; indexed = tt }) in
+    (record { there = λ x h. absurd h; agree = tt; indexed = tt }) in
     record { there = λ x among. all.there x (inr (knows.there x among)); agree = all.agree; indexed = all.indexed }

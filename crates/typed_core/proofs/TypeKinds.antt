@@ -1,21 +1,17 @@
 -- The kinds of types of a state, and what a type of a kind answers.
-use Rattle.std.proofs.Common.{◌≡◌, ℕ, List, [], ◌∷◌, ◌++◌, ◌==◌, length, map, Bool as Truth, true, false, cond, Option, Some, Result, Ok, Err, refl, sym, ap, subst, ◌∙◌, arith, eq-eqb}
+use Rattle.std.proofs.Common.{◌≡◌, ℕ, List, [], ◌∷◌, ◌++◌, length, map, true, Option, Some, refl, sym, ap, subst, ◌∙◌, arith, eq-eqb}
 use Rattle.xan_lin.specs.Linear.{Linear}
 use Rattle.xan_lin.specs.Subst.{subst_of}
-use Rattle.xan_lin.specs.declared.term.TooLarge.{TooLarge}
-use Rattle.state_types.specs.Answers.{◌>>=◌}
 use Rattle.state_types.specs.Types.{same_kind, subst_ty}
 use Rattle.state_types.specs.Unpacking.{shifted_type}
 use Rattle.state_types.specs.declared.types.Ty.{Ty}
 use Rattle.state_types.specs.declared.types.Ty.TheVariants as ty
-use Rattle.xanadu_tree.specs.declared.linear.Linear.{Linear as Exact}
 use Rattle.xanadu_tree.specs.declared.types.CoreTy.{CoreTy}
 use Rattle.xanadu_tree.specs.declared.types.CoreTy.TheVariants as core_ty
 use Rattle.xanadu_tree.specs.declared.types.Kind.{Kind}
 use Rattle.xanadu_tree.specs.declared.types.Kind.TheVariants as kind
 use Rattle.xanadu_tree.specs.KindRules.{kind_of, IsValue}
 use Rattle.typed_core.specs.Forms.{form_of, type_of, renamed_type}
-use Rattle.typed_core.specs.Limits.{Walk}
 use Rattle.typed_core.specs.States.{as_number, as_truth, as_array, as_tuple}
 use Rattle.typed_core.proofs.Fitting.{Answers, Anything, Fits, then_answers, any_answer}
 
