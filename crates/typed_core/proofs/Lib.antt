@@ -1,2 +1,12 @@
 mod Sources
 mod Examples
+pub mod Fitting
+pub mod TypeKinds
+pub mod FitMatches
+pub mod KnownTypes
+pub mod FitStates
+pub mod FitOperands
+pub mod FitTests
+pub mod FitJoins
+pub mod FitStatements
+pub mod FitPrograms

@@ -8,10 +8,12 @@
 
 mod elaborated;
 mod goal;
+mod laws;
 mod note;
 mod proved;
 
 pub use crate::elaborated::Elaborated;
 pub use crate::goal::GoalAt;
+pub use crate::laws::shaped_cores_fit;
 pub use crate::note::Note;
 pub use crate::proved::Proved;
