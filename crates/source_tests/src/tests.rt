@@ -1,5 +1,6 @@
 //! Sources as rows of tables.
 
+mod long;
 mod parsing;
 mod printing;
 
