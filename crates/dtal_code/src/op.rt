@@ -2,7 +2,7 @@
 ///
 /// A place is a number below 256: the registers `r0` to `r15` are 0 to 15, and the slots `s0` to `s239` are 16 to 255. A register is
 /// a place below 16.
-#[derive(Clone, Copy, Debug, PartialEq, Eq)]
+#[derive(Clone, Copy, PartialEq)]
 pub enum Op {
     /// The number into a register.
     Li(u8, i64),

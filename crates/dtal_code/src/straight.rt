@@ -6,7 +6,7 @@ use xan_seq::Seq;
 ///
 /// Its parameters are all numbers, and so is its result. Nothing is asked of the fields here: the calls that want a program which
 /// some text spells say so.
-#[derive(Debug, Drop)]
+#[derive(Drop)]
 pub struct Straight {
     /// The name of the function.
     pub name: Name,

@@ -6,7 +6,7 @@ ghost use Rattle.dtal_driver.specs.Answers.{status_of};
 use dtal_machine::{Rule, Where};
 
 /// How a command came out, in the order in which it may end. Arguments and rows are numbered from 1.
-#[derive(Clone, Copy, Debug, PartialEq, Eq)]
+#[derive(Clone, Copy)]
 pub enum Answer {
     /// The words are no command.
     NoCommand,

@@ -18,7 +18,7 @@ use xan_io::{Sink, SinkFault};
 const STEPS: u64 = 1_000_000_000;
 
 /// How the run of an accepted straight program ends. It wants no memory, and no store.
-#[derive(Clone, Copy, Debug, PartialEq, Eq)]
+#[derive(Clone, Copy)]
 pub enum End {
     /// With this number.
     Returned(i64),

@@ -8,7 +8,7 @@ use std::alloc::{AllocFailed, Global};
 use xan_io::{Arg, ArgError, read_arg};
 
 /// A command, over the text of a name.
-#[derive(Debug, Drop)]
+#[derive(Drop)]
 pub enum Command<'a> {
     /// To say whether the program is accepted.
     Verify(&'a str),
@@ -17,7 +17,7 @@ pub enum Command<'a> {
 }
 
 /// Why words give no command.
-#[derive(Clone, Copy, Debug, PartialEq, Eq)]
+#[derive(Clone, Copy)]
 pub enum WordsError {
     /// They are none, or one of them is no value.
     NoCommand,

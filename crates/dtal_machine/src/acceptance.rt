@@ -13,7 +13,7 @@ use std::marker::Model;
 use xan_io::Name;
 
 /// A straight program that is accepted.
-#[derive(Debug, Drop)]
+#[derive(Drop)]
 pub struct Verified {
     program: Straight,
 }

@@ -5,14 +5,14 @@ ghost use Rattle.dtal_machine.specs.Acting.{alone, activation, outcome, fitting,
 use dtal_code::Op;
 
 /// How a run has ended.
-#[derive(Clone, Copy, Debug, PartialEq, Eq)]
+#[derive(Clone, Copy)]
 pub(crate) enum End {
     Returned(i64),
     Overflow,
 }
 
 /// What an instruction did beside its writing.
-#[derive(Clone, Copy, Debug, PartialEq, Eq)]
+#[derive(Clone, Copy)]
 pub(crate) enum Acted {
     GoesOn,
     Prints(i64),

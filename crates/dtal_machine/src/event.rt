@@ -1,5 +1,5 @@
 /// What a step of the machine tells its caller.
-#[derive(Clone, Copy, Debug, PartialEq, Eq)]
+#[derive(Clone, Copy, Debug, PartialEq)]
 pub enum Event {
     /// The run goes on, and nothing was printed.
     Going,

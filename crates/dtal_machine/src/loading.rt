@@ -6,7 +6,7 @@ use std::alloc::{AllocError, AllocFailed, Global};
 use xan_io::Arg;
 
 /// Why a run cannot begin, in the order in which it is looked at. Arguments and rows are numbered from 1.
-#[derive(Clone, Copy, Debug, PartialEq, Eq)]
+#[derive(Clone, Copy, Debug, PartialEq)]
 pub enum LoadError {
     /// Another number of arguments than of parameters.
     ArgCount,

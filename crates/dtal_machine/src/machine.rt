@@ -15,7 +15,7 @@ use xan_io::Arg;
 /// A machine that runs an accepted straight program. It has one activation, since no instruction calls.
 ///
 /// Contracts see the code that it runs, and the state in which the run goes on or the end that it has come to.
-#[derive(Debug, Drop)]
+#[derive(Drop)]
 pub struct Machine {
     program: Straight,
     heap: u64,

@@ -3,7 +3,7 @@ use std::alloc::{AllocError, AllocFailed};
 /// A place of a program that a rule may refuse. Functions, types, labels and instructions are numbered from 0.
 ///
 /// Of a straight program only the program and the instructions of function 0 are ever refused.
-#[derive(Clone, Copy, Debug, PartialEq, Eq)]
+#[derive(Clone, Copy, Debug, PartialEq)]
 pub enum Where {
     /// A written type. A straight program has none.
     Types(u32),
@@ -20,7 +20,7 @@ pub enum Where {
 /// What a place of a program breaks, in the order in which the rules are looked at.
 ///
 /// Of a straight program only `Main` and `Place` ever fail; the others are for what it cannot hold.
-#[derive(Clone, Copy, Debug, PartialEq, Eq)]
+#[derive(Clone, Copy, Debug, PartialEq)]
 pub enum Rule {
     /// The name of a function stands earlier too.
     Name,
@@ -49,7 +49,7 @@ pub enum Rule {
 }
 
 /// Why a program was not accepted.
-#[derive(Clone, Copy, Debug, PartialEq, Eq)]
+#[derive(Clone, Copy, Debug, PartialEq)]
 pub enum VerifyError {
     /// The first place that refuses, and the first rule that it breaks.
     Refused { at: Where, rule: Rule },

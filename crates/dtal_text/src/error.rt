@@ -1,7 +1,7 @@
 use thiserror::Error;
 
 /// Why some bytes give no straight program.
-#[derive(Clone, Copy, Debug, PartialEq, Eq, Error)]
+#[derive(Clone, Copy, Debug, Error)]
 pub enum StraightError {
     /// The bytes are the text of no straight program.
     #[error("form")]

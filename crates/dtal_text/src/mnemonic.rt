@@ -1,5 +1,5 @@
 /// The word that an instruction begins with.
-#[derive(Clone, Copy, Debug, PartialEq, Eq)]
+#[derive(Clone, Copy)]
 pub enum Mnemonic {
     Li,
     Mv,

@@ -17,7 +17,7 @@ const MOST_ROWS: usize = 512;
 
 /// Index variables, numbered from 0, and the rows that are taken to hold of them. It has at most 1,024 variables and at most 512 rows,
 /// and a row names only variables of the context. It is seen as the number of its variables and the list of its rows.
-#[derive(Debug, Drop)]
+#[derive(Drop)]
 pub struct Context {
     vars: u32,
     rows: Vec<Form>,

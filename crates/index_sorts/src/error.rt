@@ -1,7 +1,7 @@
 //! Why a call on a context is refused.
 
 /// Why a context is not made or not changed.
-#[derive(Clone, Copy, Debug, PartialEq, Eq, Drop)]
+#[derive(Clone, Copy, Drop, Debug, PartialEq)]
 pub enum ContextError {
     /// It would have more than 1,024 variables.
     Variables,

@@ -5,7 +5,7 @@ use xan_lin::LimitKind;
 pub const SOLVER_ROWS: u64 = 4001;
 
 /// What comes of an elimination.
-#[derive(Clone, Copy, Debug, PartialEq, Eq, Drop)]
+#[derive(Clone, Copy, Drop, PartialEq)]
 pub enum Answer {
     /// The goal follows from the hypotheses, and there are steps that show it.
     Proved,

@@ -10,7 +10,7 @@ use crate::source::{Look, Sign};
 pub(crate) const MOST_ROWS: usize = 2000;
 
 /// A variable, and how many pairs of a positive and a negative row it has.
-#[derive(Clone, Copy, Debug, Drop)]
+#[derive(Clone, Copy, Drop)]
 pub(crate) struct Choice {
     pub(crate) var: u32,
     pub(crate) pairs: u64,

@@ -2,7 +2,7 @@
 use crate::step::Step;
 
 /// Where a row of a system comes from.
-#[derive(Clone, Copy, Debug, Drop)]
+#[derive(Clone, Copy, Drop)]
 pub(crate) enum Source {
     /// The step of this number gave it.
     Line(u32),
@@ -11,7 +11,7 @@ pub(crate) enum Source {
 }
 
 /// What a look at a system shows.
-#[derive(Clone, Copy, Debug, Drop)]
+#[derive(Clone, Copy, Drop)]
 pub(crate) enum Look {
     /// It has too many rows.
     Full,
@@ -24,7 +24,7 @@ pub(crate) enum Look {
 }
 
 /// Rows by the coefficient of a variable.
-#[derive(Clone, Copy, Debug, Drop)]
+#[derive(Clone, Copy, Drop)]
 pub(crate) enum Sign {
     /// It is above 0.
     Positive,

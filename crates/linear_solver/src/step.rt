@@ -2,7 +2,7 @@
 
 /// A step of a refutation: a line of a proof in which a hypothesis is named by its number. It gives one row from the rows of the steps
 /// before it, which are counted from 0.
-#[derive(Clone, Copy, Debug, PartialEq, Eq, Drop)]
+#[derive(Clone, Copy, Drop)]
 pub enum Step {
     /// The hypothesis of this number.
     Hyp(u32),

@@ -3,7 +3,7 @@ use std::alloc::AllocError;
 use xan_lin::LimitKind;
 
 /// Why a pass over rows ends early.
-#[derive(Clone, Copy, Debug, Drop)]
+#[derive(Clone, Copy, Drop)]
 pub(crate) enum Stop {
     /// A limit is met.
     Limit(LimitKind),

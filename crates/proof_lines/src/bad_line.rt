@@ -1,7 +1,7 @@
 //! Why lines prove nothing.
 
 /// The first line that is bad, counted from 0, and the first reason that it has.
-#[derive(Clone, Copy, Debug, PartialEq, Eq, Drop)]
+#[derive(Clone, Copy, Drop, Debug, PartialEq)]
 pub struct BadLine {
     /// The number of the line; at `NotRefuted` how many lines there are.
     pub at: u32,
@@ -10,7 +10,7 @@ pub struct BadLine {
 }
 
 /// Why a line is bad. Where several reasons hold, the first of these is given.
-#[derive(Clone, Copy, Debug, PartialEq, Eq, Drop)]
+#[derive(Clone, Copy, Drop, Debug, PartialEq)]
 pub enum Why {
     /// It takes a row as a hypothesis that is none of the listed ones.
     NotInContext,

@@ -14,7 +14,7 @@ const BOUND: u64 = 4611686018427387903;
 const LAST_VARIABLE: u64 = 4294967295;
 
 /// A part of a form.
-#[derive(Clone, Copy, Debug, Drop)]
+#[derive(Clone, Copy, Drop)]
 pub(crate) enum Part {
     /// A coefficient and its variable.
     Term(Term),

@@ -3,7 +3,7 @@ use xan_lin::Form;
 
 /// A line of a proof that rows have no assignment under which a goal fails. It gives one row from the rows of the lines before it, which
 /// are counted from 0.
-#[derive(Debug, Drop)]
+#[derive(Drop)]
 pub enum Line {
     /// A row that is listed as a hypothesis.
     Hyp(Form),

@@ -24,7 +24,7 @@ const BELOW: u64 = 9223372036854775808;
 const ABOVE: u64 = 9223372036854775807;
 
 /// What a line begins with.
-#[derive(Clone, Copy, Debug)]
+#[derive(Clone, Copy)]
 pub(crate) enum Kind {
     Hyp,
     Goal,

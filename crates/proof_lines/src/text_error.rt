@@ -2,7 +2,7 @@
 use thiserror::Error;
 
 /// Why some bytes were not read as lines.
-#[derive(Clone, Copy, Debug, PartialEq, Eq, Error)]
+#[derive(Clone, Copy, Debug, Error)]
 pub enum LineTextError {
     /// The bytes spell no lines. The first `at` of them begin some, and one more begins none.
     #[error("fault at {at}")]

@@ -9,7 +9,7 @@ use thiserror::Error;
 use xan_io::Memory;
 
 /// Why a tree has no core.
-#[derive(Clone, Copy, Debug, PartialEq, Eq, Error)]
+#[derive(Clone, Copy, Debug, Error)]
 pub enum ShapeError {
     /// The first fault of the walk, at the offset of its token.
     #[error("fault")]
@@ -44,7 +44,7 @@ impl<T: Drop> From<AllocFailed<T>> for ShapeError {
 }
 
 /// What is wrong at the token of a fault.
-#[derive(Clone, Copy, Debug, PartialEq, Eq)]
+#[derive(Clone, Copy, Debug)]
 pub enum ShapeKind {
     /// The name names something of its sort already.
     NamedTwice,

@@ -13,7 +13,7 @@ use xan_seq::Seq;
 
 /// A closed type: for some values of its variables, numbered from 0, its rows hold and its parts have their types. It is the type of the
 /// cells of an array, and has one part then, or of a tuple.
-#[derive(Debug, Drop)]
+#[derive(Drop)]
 pub struct Packed {
     /// How many variables it has.
     pub vars: u32,
@@ -27,7 +27,7 @@ pub struct Packed {
 
 /// The type of a function: for all values of its variables for which the rows hold, it takes parameters of these types. Its result has its
 /// type for some values of the result's own variables, numbered from `vars` on, for which the result's rows hold.
-#[derive(Debug, Drop)]
+#[derive(Drop)]
 pub struct Signature {
     /// How many variables it has.
     pub vars: u32,

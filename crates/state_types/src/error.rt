@@ -8,7 +8,7 @@ use thiserror::Error;
 use xan_lin::{Memory, TooLarge};
 
 /// Why there are no demanded rows.
-#[derive(Clone, Copy, Debug, PartialEq, Eq, Error)]
+#[derive(Clone, Copy, Debug, Error)]
 pub enum StateError {
     /// The first part of another kind than wanted, from 0, or the first place without a type or with one of another kind.
     #[error("kind")]

@@ -18,7 +18,7 @@ use xan_lin::Form;
 use xan_seq::Seq;
 
 /// What a match finds.
-#[derive(Debug, Drop)]
+#[derive(Drop)]
 pub struct Found {
     /// The value of each quantified variable, by rising variable.
     pub values: Seq<(u32, Form)>,

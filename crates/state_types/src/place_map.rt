@@ -11,7 +11,7 @@ use std::marker::Model;
 use xan_lin::Memory;
 
 /// The types of some places. It is seen as the list of the places with their types, by rising place.
-#[derive(Debug, Drop)]
+#[derive(Drop)]
 pub struct Places {
     entries: Vec<(u16, Ty)>,
 }

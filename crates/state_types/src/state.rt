@@ -7,7 +7,7 @@ use index_sorts::Context;
 use xan_lin::Memory;
 
 /// What is known where a program stands: the index variables with the rows that hold of them, and the types of places.
-#[derive(Debug, Drop)]
+#[derive(Drop)]
 pub struct StateType {
     /// The variables, and the rows that hold of them.
     pub ctx: Context,

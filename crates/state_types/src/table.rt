@@ -11,7 +11,7 @@ use xan_lin::{Form, Memory};
 use xan_seq::Seq;
 
 /// Closed types, numbered from 0: at most 65,536, each of which names only variables of its own. It is seen as the list of them.
-#[derive(Debug, Drop)]
+#[derive(Drop)]
 pub struct TypeTable {
     types: Vec<Packed>,
 }

@@ -11,7 +11,7 @@ use xan_lin::{Form, TooLarge};
 pub type TypeId = u32;
 
 /// What a word is.
-#[derive(Debug, Drop)]
+#[derive(Drop)]
 pub enum Ty {
     /// A number: the value of the form. A source's `unit` is this type of the form 0.
     Int(Form),

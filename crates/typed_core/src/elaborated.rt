@@ -12,7 +12,7 @@ use xanadu_tree::Core;
 
 /// A core with its closed types and signatures, and the notes and goals of its bodies, both in the order of elaboration. It keeps that
 /// all of them are those of the core.
-#[derive(Debug, Drop)]
+#[derive(Drop)]
 pub struct Elaborated {
     core: Core,
     table: TypeTable,

@@ -4,7 +4,7 @@ use index_sorts::Context;
 use xan_lin::Form;
 
 /// A row that has to be proved: where it arises, and what is known there.
-#[derive(Debug, Drop)]
+#[derive(Drop)]
 pub struct GoalAt {
     /// The number of the function.
     pub fun: u32,

@@ -6,7 +6,7 @@ use xan_seq::Seq;
 
 /// What elaboration leaves for a later pass over the same core, which comes by the same constructs in the same order. Goals go by their
 /// numbers in the list of all goals, from 0.
-#[derive(Debug, Drop)]
+#[derive(Drop)]
 pub enum Note {
     /// What is known at a place where control flow parts or meets. The places are the visible variables.
     State(StateType),

@@ -9,7 +9,7 @@ use std::marker::Model;
 use xan_seq::Seq;
 
 /// An elaborated program with a list of lines for each goal. It keeps that each list proves the goal of its place.
-#[derive(Debug, Drop)]
+#[derive(Drop)]
 pub struct Proved {
     base: Elaborated,
     lines: Seq<Seq<Line>>,

@@ -1,7 +1,7 @@
 use xan_seq::Seq;
 
 /// An argument of a run.
-#[derive(Debug, Drop)]
+#[derive(Drop)]
 pub enum Arg {
     /// A number.
     Int(i64),

@@ -14,7 +14,7 @@ use xan_read::{Fault, Production, ReadError, integer, nothing_left, separated, w
 use xan_seq::Seq;
 
 /// Why a word gives no argument.
-#[derive(Clone, Copy, Debug, PartialEq, Eq)]
+#[derive(Clone, Copy)]
 pub enum ArgError {
     /// The word spells no argument.
     Text,
@@ -23,7 +23,7 @@ pub enum ArgError {
 }
 
 /// What stands in front of the numbers of an argument, or all of one without numbers.
-#[derive(Clone, Copy, Debug, PartialEq, Eq)]
+#[derive(Clone, Copy)]
 pub enum Head {
     Int,
     True,

@@ -2,7 +2,7 @@ use crate::memory::Memory;
 use std::alloc::Global;
 
 /// What a read gives.
-#[derive(Debug, Drop)]
+#[derive(Drop)]
 pub enum FileRead {
     /// The whole content.
     Whole(Vec<u8>),
@@ -11,7 +11,7 @@ pub enum FileRead {
 }
 
 /// Why a file was not read or written.
-#[derive(Clone, Copy, Debug, PartialEq, Eq)]
+#[derive(Clone, Copy)]
 pub enum FileFault {
     /// The read or the write failed, and the count of faults of this name rose.
     Failed,

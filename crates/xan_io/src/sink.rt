@@ -1,5 +1,5 @@
 /// The bytes were not all written, and the sink's count of faults rose.
-#[derive(Clone, Copy, Debug, PartialEq, Eq)]
+#[derive(Clone, Copy)]
 pub struct SinkFault;
 
 /// Where output goes. An implementation tells what was written so far, or tells nothing of it.

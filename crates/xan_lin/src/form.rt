@@ -21,7 +21,7 @@ use std::marker::Model;
 
 /// A linear form: at most 16 terms by rising variable, none with the coefficient 0, and a constant. Each number has a magnitude of at
 /// most `BOUND`. It is seen as the list of its terms and its constant.
-#[derive(Debug, Drop)]
+#[derive(Drop)]
 pub struct Form {
     terms: ArrayVec<Term, 16>,
     constant: i64,

@@ -12,7 +12,7 @@ use crate::wide::{Wide, plus_product, widened};
 use arrayvec::ArrayVec;
 
 // A term of a form that stands for a variable, and what it is multiplied by.
-#[derive(Clone, Copy, Debug, Default, Drop)]
+#[derive(Clone, Copy, Drop, Default)]
 pub(crate) struct Product {
     pub(crate) var: u32,
     pub(crate) by: i64,

@@ -7,11 +7,11 @@ pub const BOUND: i64 = 4611686018427387903;
 pub(crate) const MOST_TERMS: usize = 16;
 
 /// Memory ran out.
-#[derive(Clone, Copy, Debug, PartialEq, Eq, Drop)]
+#[derive(Clone, Copy, Drop, Debug)]
 pub struct Memory;
 
 /// A multiple of a variable.
-#[derive(Clone, Copy, Debug, Default, PartialEq, Eq, Drop)]
+#[derive(Clone, Copy, Drop, Default, PartialEq, Debug)]
 pub struct Term {
     /// The number of the variable.
     pub var: u32,
@@ -20,7 +20,7 @@ pub struct Term {
 }
 
 /// Why there is no form: what would be exact is past a bound.
-#[derive(Clone, Copy, Debug, PartialEq, Eq, Drop)]
+#[derive(Clone, Copy, Drop, Debug)]
 pub enum TooLarge {
     /// It has more than 16 terms.
     Terms,
@@ -29,7 +29,7 @@ pub enum TooLarge {
 }
 
 /// What a source or a proof can have too many of, or too large.
-#[derive(Clone, Copy, Debug, PartialEq, Eq, Drop)]
+#[derive(Clone, Copy, Drop, PartialEq)]
 pub enum LimitKind {
     /// The bytes of a source.
     Length,

@@ -5,19 +5,19 @@ use std::alloc::Global;
 use std::marker::Model;
 
 /// Memory ran out.
-#[derive(Clone, Copy, Debug, PartialEq, Eq, Drop)]
+#[derive(Clone, Copy, Drop, Debug)]
 pub struct Memory;
 
 /// The pool has as many live rows as it has room for.
-#[derive(Clone, Copy, Debug, PartialEq, Eq, Drop)]
+#[derive(Clone, Copy, Drop, Debug, PartialEq)]
 pub struct Full;
 
 /// The position of a row in its pool, counted from 0.
-#[derive(Clone, Copy, Debug, PartialEq, Eq, Drop)]
+#[derive(Clone, Copy, Drop, Debug, PartialEq)]
 pub struct RowId(pub usize);
 
 /// A number of rows of a pool, counted from its first row.
-#[derive(Clone, Copy, Debug, PartialEq, Eq, Drop)]
+#[derive(Clone, Copy, Drop, Debug, PartialEq)]
 pub struct Mark(pub usize);
 
 /// A region of rows, each of the same number of cells. Rows come and go at its end.

@@ -7,7 +7,7 @@ use std::alloc::{AllocError, AllocFailed};
 
 /// The place of a fault: how many bytes are left, the first of them the one at which reading failed.
 /// None is left where the bytes end too early.
-#[derive(Clone, Copy, Debug, PartialEq, Eq, Drop)]
+#[derive(Clone, Copy, Drop, PartialEq)]
 pub struct Fault {
     pub left: usize,
 }
@@ -22,7 +22,7 @@ impl Fault {
 }
 
 /// Why a production that takes memory was not read.
-#[derive(Debug, Drop)]
+#[derive(Drop)]
 pub enum ReadError {
     /// Memory ran out. It is the one error that does not depend on the bytes.
     Memory,

@@ -10,7 +10,7 @@ ghost use Rattle.std.specs.Prelude.{◌≡◌};
 use std::marker::Model;
 
 /// A list of values, kept in a `Vec`. It is made of one and gives it back, both without memory.
-#[derive(Debug, Drop)]
+#[derive(Drop)]
 pub struct Seq<T> {
     elements: Vec<T>,
 }

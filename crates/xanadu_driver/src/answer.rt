@@ -6,7 +6,7 @@ ghost use Rattle.xanadu_driver.specs.Answers.{status_of};
 use crate::refusal::Refusal;
 
 /// How a command came out, in the order in which it may end.
-#[derive(Clone, Copy, Debug, PartialEq, Eq)]
+#[derive(Clone, Copy)]
 pub enum Answer {
     /// The words are no command.
     NoCommand,

@@ -6,7 +6,7 @@ ghost use Rattle.xanadu_driver.specs.Answers.{refusal_status};
 use scope_shapes::ShapeKind;
 
 /// Why a source is not built, in the order in which it is looked for. Places are offsets in bytes.
-#[derive(Clone, Copy, Debug, PartialEq, Eq)]
+#[derive(Clone, Copy)]
 pub enum Refusal {
     /// It has more than 1048576 bytes.
     Length,

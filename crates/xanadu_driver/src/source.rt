@@ -18,7 +18,7 @@ use xanadu_parser::{ParseError, parse};
 use xanadu_tree::{Core, Tree};
 
 /// Why nothing came of a source.
-#[derive(Clone, Copy, Debug, PartialEq, Eq)]
+#[derive(Clone, Copy)]
 pub enum SourceError {
     /// It is refused for this.
     Refused(Refusal),

@@ -10,7 +10,7 @@ use dtal_code::{one_program_a_text, print_straight};
 use std::alloc::Global;
 
 /// The text of a program, and how many instructions it has.
-#[derive(Debug, Drop)]
+#[derive(Drop)]
 pub struct Text {
     pub bytes: Vec<u8>,
     pub instructions: u32,

@@ -6,7 +6,7 @@ ghost use Rattle.xanadu_driver.specs.Words as spec;
 ghost use Rattle.xanadu_driver.specs.Words.{texts, view};
 
 /// The command that builds the source of one name into the text of another.
-#[derive(Clone, Copy, Debug)]
+#[derive(Clone, Copy)]
 pub struct BuildCommand<'a> {
     pub source: &'a str,
     pub target: &'a str,

@@ -5,7 +5,7 @@ ghost use Rattle.xanadu_lexer.specs.Lexing as spec;
 ghost use Rattle.xanadu_lexer.specs.Spelling.{keyword_text};
 
 /// A word that is no name. Each is named for its text.
-#[derive(Clone, Copy, Debug, PartialEq, Eq)]
+#[derive(Clone, Copy)]
 pub enum Keyword {
     Fun,
     Type,

@@ -15,7 +15,7 @@ use std::alloc::Global;
 use xan_io::{Memory, Name};
 
 /// What stands at the front of a text, and how many bytes of it follow the first.
-#[derive(Debug, Drop)]
+#[derive(Drop)]
 pub enum Piece {
     /// A blank or a comment.
     Gap(usize),

@@ -5,7 +5,7 @@ ghost use Rattle.xanadu_lexer.specs.Lexing as spec;
 ghost use Rattle.xanadu_lexer.specs.Spelling.{symbol_text};
 
 /// A mark.
-#[derive(Clone, Copy, Debug, PartialEq, Eq)]
+#[derive(Clone, Copy)]
 pub enum Symbol {
     /// `(`
     LeftParen,

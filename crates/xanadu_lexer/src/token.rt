@@ -3,7 +3,7 @@ use crate::symbol::Symbol;
 use xan_io::Name;
 
 /// A token and where it stands.
-#[derive(Debug, Drop)]
+#[derive(Drop)]
 pub struct Token {
     /// The offset in bytes of its first byte, from the start of the source.
     pub at: u32,
@@ -11,7 +11,7 @@ pub struct Token {
 }
 
 /// What a token is.
-#[derive(Debug, Drop)]
+#[derive(Drop)]
 pub enum TokenKind {
     /// A name that begins with a small letter, and is no keyword.
     Lower(Name),

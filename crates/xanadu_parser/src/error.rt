@@ -1,7 +1,7 @@
 use thiserror::Error;
 
 /// Why a source has no tree.
-#[derive(Clone, Copy, Debug, PartialEq, Eq, Error)]
+#[derive(Clone, Copy, Debug, Error)]
 pub enum ParseError {
     /// More than 64 brackets are open at some token.
     #[error("nesting")]

@@ -7,7 +7,7 @@ use std::alloc::{AllocError, AllocFailed};
 use xan_io::Memory;
 
 /// Why a production was not read.
-#[derive(Clone, Copy, Debug, PartialEq, Eq, Drop)]
+#[derive(Clone, Copy, Drop)]
 pub enum Stop {
     /// How many tokens are left at the fault, the first of them the one that cannot follow. None is left where more tokens are wanted.
     Fault(usize),

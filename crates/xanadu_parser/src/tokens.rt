@@ -13,7 +13,7 @@ use xanadu_lexer::{Keyword, Symbol, Token, TokenKind};
 use xanadu_tree::Identifier;
 
 /// The tokens that are left, which contracts see as their list.
-#[derive(Debug, Drop)]
+#[derive(Drop)]
 pub struct Tokens<'a> {
     rest: &'a [Token],
 }

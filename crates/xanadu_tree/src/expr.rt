@@ -1,5 +1,5 @@
 /// An operator between two numbers.
-#[derive(Clone, Copy, Debug, PartialEq, Eq)]
+#[derive(Clone, Copy)]
 pub enum Op {
     Add,
     Sub,
@@ -11,7 +11,7 @@ pub enum Op {
 }
 
 /// A comparison of two numbers.
-#[derive(Clone, Copy, Debug, PartialEq, Eq)]
+#[derive(Clone, Copy)]
 pub enum Rel {
     Lt,
     Le,
@@ -23,7 +23,7 @@ pub enum Rel {
 
 /// An expression. Variables, functions and types go by their numbers. The `u32` that stands last is the offset in the source at which
 /// the goals of the construct are reported.
-#[derive(Debug, Drop)]
+#[derive(Drop)]
 pub enum CoreExpr {
     Int(i64),
     Bool(bool),

@@ -13,7 +13,7 @@ use xan_seq::Seq;
 /// A program whose names are resolved: its declared types, which are numbered from 2 on, its functions, and which of them is `main`.
 ///
 /// A core is a program: it keeps the rules of scopes, of simple kinds, and of what index variables may be named (`docs/language.md`).
-#[derive(Debug, Drop)]
+#[derive(Drop)]
 pub struct Core {
     types: Seq<Packing>,
     funs: Seq<CoreFun>,
@@ -68,7 +68,7 @@ impl Core {
 }
 
 /// A function. Its first variables are its parameters, in order, and then each declared one in the order of the text.
-#[derive(Debug, Drop)]
+#[derive(Drop)]
 pub struct CoreFun {
     pub name: Name,
     /// The function's own index variables, which its parameters name.

@@ -3,7 +3,7 @@ use crate::types::{CoreTy, Quant};
 use xan_seq::Seq;
 
 /// The test of an `if` or a `while`.
-#[derive(Debug, Drop)]
+#[derive(Drop)]
 pub enum Test {
     Leaf(CoreExpr),
     /// `&&`, from left to right.
@@ -15,7 +15,7 @@ pub enum Test {
 
 /// What is stated where control flow meets: the types of some variables, over index variables of the clause's own, which are numbered
 /// from `first` on in the function.
-#[derive(Debug, Drop)]
+#[derive(Drop)]
 pub struct Clause {
     pub first: u32,
     pub quant: Quant,
@@ -23,7 +23,7 @@ pub struct Clause {
 }
 
 /// A statement. The `u32` that stands last is the offset in the source at which the goals of the statement are reported.
-#[derive(Debug, Drop)]
+#[derive(Drop)]
 pub enum CoreStmt {
     /// A declaration of a variable, or an assignment.
     Set(u32, CoreExpr),

@@ -3,14 +3,14 @@ use xan_seq::Seq;
 
 /// The index variables that a type, a function, a result or a clause quantifies over, numbered from the first of its own, and what is
 /// assumed of them: each row is a form that is at least 0.
-#[derive(Debug, Drop)]
+#[derive(Drop)]
 pub struct Quant {
     pub count: u32,
     pub rows: Seq<Linear>,
 }
 
 /// A type with its index. Types are numbered: 0 is the cell of a number, 1 that of a truth value, then the declared ones from 2 on.
-#[derive(Debug, Drop)]
+#[derive(Drop)]
 pub enum CoreTy {
     /// A number that equals the form.
     Int(Linear),
@@ -23,7 +23,7 @@ pub enum CoreTy {
 }
 
 /// A type without its index.
-#[derive(Clone, Copy, Debug, PartialEq, Eq)]
+#[derive(Clone, Copy)]
 pub enum Kind {
     Int,
     Bool,
@@ -36,7 +36,7 @@ pub enum Kind {
 }
 
 /// A declared type: a tuple type, or a cell type with one part. It is closed by its own quantifier.
-#[derive(Debug, Drop)]
+#[derive(Drop)]
 pub struct Packing {
     pub quant: Quant,
     pub parts: Seq<CoreTy>,

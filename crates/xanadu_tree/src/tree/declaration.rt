@@ -6,27 +6,27 @@ use crate::tree::types::Type;
 use xan_io::Name;
 
 /// A name as it is written, and the offset of its first byte. It begins with a small letter, or with a capital one where it names a type.
-#[derive(Debug, Drop)]
+#[derive(Drop)]
 pub struct Identifier {
     pub name: Name,
     pub at: u32,
 }
 
 /// A whole source: its declarations in order. The offset is that of the first token, or the length of the source where there is none.
-#[derive(Debug, Drop)]
+#[derive(Drop)]
 pub struct Tree {
     pub declarations: Vec<Declaration>,
     pub at: u32,
 }
 
-#[derive(Debug, Drop)]
+#[derive(Drop)]
 pub enum Declaration {
     Type(TypeDeclaration),
     Function(FunctionDeclaration),
 }
 
 /// `type` NAME `=` .. `;`. The offset is that of `type`.
-#[derive(Debug, Drop)]
+#[derive(Drop)]
 pub struct TypeDeclaration {
     pub name: Identifier,
     pub quantifier: Option<Quantifier>,
@@ -35,7 +35,7 @@ pub struct TypeDeclaration {
 }
 
 /// What a type declaration declares.
-#[derive(Debug, Drop)]
+#[derive(Drop)]
 pub enum TypeBody {
     /// A cell type: the type of each cell of an array.
     Cell(Type),
@@ -44,7 +44,7 @@ pub enum TypeBody {
 }
 
 /// `fun` name .. with its body. The offset is that of `fun`.
-#[derive(Debug, Drop)]
+#[derive(Drop)]
 pub struct FunctionDeclaration {
     pub name: Identifier,
     pub quantifier: Option<Quantifier>,
@@ -55,14 +55,14 @@ pub struct FunctionDeclaration {
 }
 
 /// A name and its type, of a function's parameter or of a clause's variable.
-#[derive(Debug, Drop)]
+#[derive(Drop)]
 pub struct Parameter {
     pub name: Identifier,
     pub ty: Type,
 }
 
 /// What a function gives. The offset is that of its first token.
-#[derive(Debug, Drop)]
+#[derive(Drop)]
 pub enum ResultType {
     /// No value.
     Unit {

@@ -6,7 +6,7 @@ use crate::tree::types::Element;
 
 /// Conjunctions with `||` between them. Each after the first stands with the offset of the operator before it.
 #[cycle(expression)]
-#[derive(Debug, Drop)]
+#[derive(Drop)]
 pub struct Expression {
     pub first: Conjunction,
     pub rest: Vec<(Conjunction, u32)>,
@@ -15,7 +15,7 @@ pub struct Expression {
 
 /// Negations with `&&` between them. Each after the first stands with the offset of the operator before it.
 #[cycle(expression)]
-#[derive(Debug, Drop)]
+#[derive(Drop)]
 pub struct Conjunction {
     pub first: Negation,
     pub rest: Vec<(Negation, u32)>,
@@ -24,7 +24,7 @@ pub struct Conjunction {
 
 /// A comparison, with a `!` before it or without.
 #[cycle(expression)]
-#[derive(Debug, Drop)]
+#[derive(Drop)]
 pub struct Negation {
     pub negated: bool,
     pub operand: Comparison,
@@ -33,7 +33,7 @@ pub struct Negation {
 
 /// A sum, or two sums that are compared.
 #[cycle(expression)]
-#[derive(Debug, Drop)]
+#[derive(Drop)]
 pub struct Comparison {
     pub left: Sum,
     pub right: Option<(Rel, Box<Sum>)>,
@@ -42,7 +42,7 @@ pub struct Comparison {
 
 /// Products with `Add` or `Sub` between them. Each after the first stands with its operator and the offset of that.
 #[cycle(expression)]
-#[derive(Debug, Drop)]
+#[derive(Drop)]
 pub struct Sum {
     pub first: Product,
     pub rest: Vec<(Op, Product, u32)>,
@@ -51,7 +51,7 @@ pub struct Sum {
 
 /// Operands with `Mul`, `Div` or `Mod` between them. Each after the first stands with its operator and the offset of that.
 #[cycle(expression)]
-#[derive(Debug, Drop)]
+#[derive(Drop)]
 pub struct Product {
     pub first: Unary,
     pub rest: Vec<(Op, Unary, u32)>,
@@ -60,7 +60,7 @@ pub struct Product {
 
 /// An operand, with a `-` before it or without.
 #[cycle(expression)]
-#[derive(Debug, Drop)]
+#[derive(Drop)]
 pub struct Unary {
     pub negative: bool,
     pub operand: Postfix,
@@ -69,7 +69,7 @@ pub struct Unary {
 
 /// A primary, with indices in brackets behind it. Each index stands with the offset of its `[`.
 #[cycle(expression)]
-#[derive(Debug, Drop)]
+#[derive(Drop)]
 pub struct Postfix {
     pub primary: Primary,
     pub indices: Vec<(Expression, u32)>,
@@ -78,7 +78,7 @@ pub struct Postfix {
 
 /// The least expressions. The `u32` that stands last is the offset of the first token.
 #[cycle(expression)]
-#[derive(Debug, Drop)]
+#[derive(Drop)]
 pub enum Primary {
     /// At least 0.
     Number(i64, u32),

@@ -3,7 +3,7 @@
 use crate::tree::declaration::Identifier;
 
 /// Index variables in braces, and behind `|` what is assumed of them. The offset is that of the brace.
-#[derive(Debug, Drop)]
+#[derive(Drop)]
 pub struct Quantifier {
     /// There is at least one.
     pub binders: Vec<Binder>,
@@ -12,14 +12,14 @@ pub struct Quantifier {
 }
 
 /// An index variable and its sort.
-#[derive(Debug, Drop)]
+#[derive(Drop)]
 pub struct Binder {
     pub name: Identifier,
     pub sort: Sort,
 }
 
 /// What an index variable ranges over.
-#[derive(Clone, Copy, Debug, PartialEq, Eq)]
+#[derive(Clone, Copy)]
 pub enum Sort {
     Int,
     /// The integers from 0 on.
@@ -27,14 +27,14 @@ pub enum Sort {
 }
 
 /// A relation between two index expressions.
-#[derive(Debug, Drop)]
+#[derive(Drop)]
 pub struct Relation {
     pub left: IndexExpression,
     pub relation: IndexRelation,
     pub right: IndexExpression,
 }
 
-#[derive(Clone, Copy, Debug, PartialEq, Eq)]
+#[derive(Clone, Copy)]
 pub enum IndexRelation {
     Less,
     AtMost,
@@ -44,7 +44,7 @@ pub enum IndexRelation {
 }
 
 /// A sum of terms, each with a sign. The first has none, or a `-`.
-#[derive(Debug, Drop)]
+#[derive(Drop)]
 pub struct IndexExpression {
     pub negative: bool,
     pub first: IndexTerm,
@@ -52,14 +52,14 @@ pub struct IndexExpression {
     pub at: u32,
 }
 
-#[derive(Clone, Copy, Debug, PartialEq, Eq)]
+#[derive(Clone, Copy)]
 pub enum Sign {
     Plus,
     Minus,
 }
 
 /// A term of an index expression. A number is at least 0, and its offset stands last.
-#[derive(Debug, Drop)]
+#[derive(Drop)]
 pub enum IndexTerm {
     Number(i64, u32),
     /// A number times a variable.

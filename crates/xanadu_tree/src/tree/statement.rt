@@ -6,14 +6,14 @@ use crate::tree::index::Quantifier;
 
 /// Statements in braces. The offset is that of the opening brace.
 #[cycle(block)]
-#[derive(Debug, Drop)]
+#[derive(Drop)]
 pub struct Block {
     pub statements: Vec<Statement>,
     pub at: u32,
 }
 
 /// What is stated where control flow meets: the types of some variables. The offset is that of its first token.
-#[derive(Debug, Drop)]
+#[derive(Drop)]
 pub struct WrittenClause {
     pub quantifier: Option<Quantifier>,
     /// There is at least one.
@@ -23,7 +23,7 @@ pub struct WrittenClause {
 
 /// A statement. The offset `at` is that of its keyword.
 #[cycle(block)]
-#[derive(Debug, Drop)]
+#[derive(Drop)]
 pub enum Statement {
     /// `var`
     Declare {

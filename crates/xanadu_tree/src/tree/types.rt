@@ -4,7 +4,7 @@ use crate::tree::declaration::Identifier;
 use crate::tree::index::IndexExpression;
 
 /// The type of an array's cells.
-#[derive(Debug, Drop)]
+#[derive(Drop)]
 pub enum Element {
     Int(u32),
     Bool(u32),
@@ -12,7 +12,7 @@ pub enum Element {
 }
 
 /// A type, with its index where one is written.
-#[derive(Debug, Drop)]
+#[derive(Drop)]
 pub enum Type {
     /// A number.
     Int(u32),
