@@ -11,39 +11,13 @@ use Rattle.std.proofs.lemmas.List.Folds.{list_any_at}
 use Rattle.std.proofs.lemmas.Map.Views.{Contains-from_any}
 use Rattle.xan_lin.specs.Linear.{Linear}
 use Rattle.xan_lin.specs.Value.{value_of_terms, Holds}
+use Rattle.xan_lin.specs.Same.{same_form}
 use Rattle.xan_lin.specs.declared.term.Term.{Term}
+pub use Rattle.xan_lin.proofs.EqualForms.{Decides-same_form}
+use Rattle.xan_lin.proofs.Booleans.{both, both_true}
 use Rattle.index_sorts.specs.Context.{IndexContext}
-use Rattle.index_sorts.specs.Known.{IsKnown, same_term, same_form, no_terms, holds_always, knows}
+use Rattle.index_sorts.specs.Known.{IsKnown, no_terms, holds_always, knows}
 use Rattle.index_sorts.specs.Entails.{Entails}
-
--- ---- equal terms and forms
-
-both : (a b : Bool) → (a && b) ≡ true → (a ≡ true) × (b ≡ true)
-both true b e = (refl, e)
-both false b e = cc
-
-join : (a b : Bool) → a ≡ true → b ≡ true → (a && b) ≡ true
-join true b e f = f
-join false b e f = e
-
-Decides-same_term : (t u : Term) → Decides (same_term t u) (t ≡ u)
-Decides-same_term t u = (
-  λ e. (let parts = both (t.var == u.var) (int_eq t.coef u.coef) e in
-      ap (λ v. let w : Term = record { var = v; coef = t.coef } in w) ((Decides-eqb t.var u.var).0 parts.0)
-      ∙ ap (λ c. let w : Term = record { var = u.var; coef = c } in w) ((Decides-int_eq t.coef u.coef).0 parts.1)),
-  λ e. join (t.var == u.var) (int_eq t.coef u.coef) ((Decides-eqb t.var u.var).1 (ap (λ w. w.var) e)) ((Decides-int_eq t.coef u.coef).1 (ap (λ w. w.coef) e)),
-)
-
-Decides-same_terms : (ts us : List Term) → Decides (pointwise same_term ts us) (ts ≡ us)
-Decides-same_terms ts us = pointwise_decides Decides-same_term ts us
-
-pub Decides-same_form : (e f : Linear) → Decides (same_form e f) (e ≡ f)
-Decides-same_form e f = (
-  λ h. (let parts = both (int_eq e.constant f.constant) (pointwise same_term e.terms f.terms) h in
-      ap (λ ts. let g : Linear = record { terms = ts; constant = e.constant } in g) ((Decides-same_terms e.terms f.terms).0 parts.1)
-      ∙ ap (λ c. let g : Linear = record { terms = f.terms; constant = c } in g) ((Decides-int_eq e.constant f.constant).0 parts.0)),
-  λ h. join (int_eq e.constant f.constant) (pointwise same_term e.terms f.terms) ((Decides-int_eq e.constant f.constant).1 (ap (λ g. g.constant) h)) ((Decides-same_terms e.terms f.terms).1 (ap (λ g. g.terms) h)),
-)
 
 -- ---- known rows
 
@@ -81,7 +55,7 @@ Decides-knows context row = (
   ],
   λ h. elim h [
     | inl p ↦ first (holds_always row) (list_any (same_form row) context.rows)
-        (join (no_terms row.terms) (int_le (pos 0) row.constant) (is_none row.terms p.0) (is_at_least_zero row.constant p.1))
+        (both_true (no_terms row.terms) (int_le (pos 0) row.constant) (is_none row.terms p.0) (is_at_least_zero row.constant p.1))
     | inr p ↦ second (holds_always row) (list_any (same_form row) context.rows)
         (list_any_at (same_form row) context.rows p.0 row p.1 ((Decides-same_form row (get_or context.rows p.0 row)).1 (sym p.2)))
   ],

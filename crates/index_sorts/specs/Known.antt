@@ -1,9 +1,8 @@
 -- The rows that a context knows: those that hold in any case, and those that it lists.
-use Rattle.std.specs.Prelude.{◌≡◌, pos, ◌≤ℤ◌, Bool, true, false, ◌&&◌, ◌||◌, ◌⊎◌, List, [], ◌∷◌, ◌++◌, ◌==◌, length, int_le, nat_le, Result, Ok, Err, if◌then◌else◌}
+use Rattle.std.specs.Prelude.{◌≡◌, pos, ◌≤ℤ◌, Bool, true, false, ◌&&◌, ◌||◌, ◌⊎◌, List, [], ◌∷◌, ◌++◌, length, int_le, nat_le, Result, Ok, Err, if◌then◌else◌}
 use Rattle.std.specs.List.{Contains, list_any}
-use Rattle.std.specs.Ordering.{int_eq}
-use Rattle.std.specs.Cmp.Lexicographic.{pointwise}
 use Rattle.xan_lin.specs.Linear.{Linear}
+pub use Rattle.xan_lin.specs.Same.{same_term, same_form}
 use Rattle.xan_lin.specs.declared.term.Term.{Term}
 use Rattle.index_sorts.specs.Context.{IndexContext}
 use Rattle.index_sorts.specs.declared.error.ContextError.{ContextError}
@@ -14,13 +13,6 @@ abbrev pub IsKnown : IndexContext → Linear → Type 0
 IsKnown context row = ((row.terms ≡ []) × (pos 0 ≤ℤ row.constant)) ⊎ Contains context.rows row
 
 -- ---- the same as a test
-
-abbrev pub same_term : Term → Term → Bool
-same_term t u = (t.var == u.var) && int_eq t.coef u.coef
-
--- two forms are the same where their constants and their terms are
-abbrev pub same_form : Linear → Linear → Bool
-same_form e f = int_eq e.constant f.constant && pointwise same_term e.terms f.terms
 
 abbrev pub no_terms : List Term → Bool
 no_terms [] = true

@@ -1,7 +1,8 @@
 //! Rows against rows.
 ghost use Rattle.std.specs.Prelude.{◌≡◌, ◌||◌};
 ghost use Rattle.std.specs.List.{list_any};
-ghost use Rattle.index_sorts.specs.Known.{same_form, holds_always};
+ghost use Rattle.index_sorts.specs.Known.{holds_always};
+ghost use Rattle.xan_lin.specs.Same.{same_form};
 
 use xan_lin::Form;
 
@@ -12,18 +13,11 @@ fn holds_in_any_case(row: &Form) -> bool
     row.terms().is_empty() && row.constant_part() >= 0
 }
 
-// Whether the forms are equal.
-fn are_same(left: &Form, right: &Form) -> bool
-    ensures { result ≡ same_form left.now right.now }
-{
-    left.constant_part() == right.constant_part() && left.terms() == right.terms()
-}
-
 // Whether the row is one of these.
 fn is_listed(row: &Form, rows: &[Form]) -> bool
     ensures { result ≡ list_any (same_form row.now) rows.now }
 {
-    rows.iter().any(|listed| are_same(row, listed))
+    rows.iter().any(|listed| row.is_same(listed))
 }
 
 // Whether the row holds in any case or is one of these.

@@ -9,7 +9,7 @@ use Rattle.xan_lin.proofs.Ring.{add_none, zero-add_ℤ}
 use Rattle.proof_lines.specs.Variables.{is_among, with_variable}
 use Rattle.proof_lines.specs.Cells.{AreDifferent, cells_of, dense}
 use Rattle.proof_lines.proofs.Different.{equals_itself, among_at, with_variable-among, with_variable-new}
-use Rattle.proof_lines.proofs.Coefficients.{coefficient-none, coefficient-append, coefficient-same, coefficient-other}
+use Rattle.xan_lin.proofs.Coefficients.{coefficient-none, coefficient-append, coefficient-same, coefficient-other}
 
 pub length-cells : (columns : List ℕ) (free : ℕ) (row : Linear) → length (cells_of columns free row) ≡ length columns + free + 1
 unfolding cells_of

@@ -10,7 +10,7 @@ use Rattle.xan_lin.proofs.Ring.{add_none}
 use Rattle.proof_lines.specs.Variables.{is_among}
 use Rattle.proof_lines.specs.Cells.{cells_of, dense, are_among, IsProper}
 use Rattle.proof_lines.proofs.Different.{same_number}
-use Rattle.proof_lines.proofs.Coefficients.{coefficient-none, coefficient-same, coefficient-other, coefficient-below}
+use Rattle.xan_lin.proofs.Coefficients.{coefficient-none, coefficient-same, coefficient-other, coefficient-below}
 
 -- ---- the cells of the columns, without the constant
 

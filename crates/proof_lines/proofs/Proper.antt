@@ -14,7 +14,7 @@ use Rattle.proof_lines.specs.Check.{is_positive}
 use Rattle.proof_lines.specs.Cells.{dense, are_among, IsProper, AreProper}
 use Rattle.proof_lines.proofs.Different.{with_variable-among, equals_itself, same_number}
 use Rattle.proof_lines.proofs.Growing.{with_terms-none, with_terms-cons, length-with_terms}
-use Rattle.proof_lines.proofs.Coefficients.{coefficient-none, coefficient-other}
+use Rattle.xan_lin.proofs.Coefficients.{coefficient-none, coefficient-other}
 use Rattle.proof_lines.proofs.Dense.{dense-with}
 
 pub both : (a b : Bool) → (a && b) ≡ true → (a ≡ true) × (b ≡ true)

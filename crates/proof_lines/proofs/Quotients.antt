@@ -10,7 +10,7 @@ use Rattle.proof_lines.specs.Rows.{combination_of, floor_over, is_multiple, divi
 use Rattle.proof_lines.specs.Check.{is_positive}
 use Rattle.proof_lines.specs.Cells.{cells_of, combined_cells}
 use Rattle.proof_lines.proofs.Different.{same_number}
-use Rattle.proof_lines.proofs.Coefficients.{coefficient-none, coefficient-same, coefficient-other, coefficient-below, coefficient-sum, coefficient-scaled}
+use Rattle.xan_lin.proofs.Coefficients.{coefficient-none, coefficient-same, coefficient-other, coefficient-below, coefficient-sum, coefficient-scaled}
 use Rattle.proof_lines.proofs.Proper.{both, join}
 
 -- ---- numbers

@@ -7,7 +7,7 @@ use Rattle.xan_lin.specs.declared.term.Term.{Term}
 use Rattle.proof_lines.specs.Variables.{with_variable, with_terms}
 use Rattle.proof_lines.specs.Cells.{AreDifferent, cells_of, dense}
 use Rattle.proof_lines.proofs.Growing.{with_terms-none, with_terms-append, with_terms-one, too_many_at}
-use Rattle.proof_lines.proofs.Coefficients.{coefficient-none, coefficient-front}
+use Rattle.xan_lin.proofs.Coefficients.{coefficient-none, coefficient-front}
 use Rattle.proof_lines.proofs.Dense.{dense-with, cells-set}
 
 -- the row of the first terms

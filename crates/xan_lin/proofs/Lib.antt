@@ -12,3 +12,5 @@ pub mod Looking
 pub mod Replacing
 pub mod Products
 pub mod Substituting
+pub mod EqualForms
+pub mod Coefficients

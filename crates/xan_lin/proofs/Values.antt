@@ -1,7 +1,8 @@
 -- The value of a sum, of terms with the other sign, and of a product by a number.
-use Rattle.std.proofs.Common.{◌≡◌, ℕ, zero, suc, ℤ, pos, negsuc, ◌+ℤ◌, ◌-ℤ◌, ◌*ℤ◌, neg_ℤ, Ok, List, [], ◌∷◌, refl, sym, ◌∙◌, ap}
+use Rattle.std.proofs.Common.{◌≡◌, ℕ, zero, suc, ℤ, pos, negsuc, ◌+ℤ◌, ◌-ℤ◌, ◌*ℤ◌, neg_ℤ, Ok, List, [], ◌∷◌, refl, sym, ◌∙◌, ap, arith}
+use Rattle.std.proofs.lemmas.Int.{ints}
 use Rattle.xan_lin.specs.Terms.{with_multiple, plus_term, sum_terms, negated_terms, scaled_terms}
-use Rattle.xan_lin.specs.Linear.{Linear, form_of, sum_of, difference_of, product_of, negated_row_of}
+use Rattle.xan_lin.specs.Linear.{Linear, form_of, sum_of, difference_of, excess_of, product_of, negated_row_of}
 use Rattle.xan_lin.specs.Value.{value_at, value_of_terms, value_of}
 use Rattle.xan_lin.specs.declared.term.Term.{Term}
 use Rattle.xan_lin.proofs.Ring.{add_none, add-mul, zero-mul, neg-mul, mul_assoc, mul_comm, add_assoc_ℤ, add_turn, zero-add_ℤ, neg-add, add_pairs, sub_pairs, neg_less}
@@ -94,6 +95,17 @@ difference-value values e f difference h =
     ap (λ form. value_of values form) (sym (sized-parts (sum_terms e.terms (negated_terms f.terms)) (e.constant -ℤ f.constant) difference h))
     ∙ ap (λ n. n +ℤ (e.constant -ℤ f.constant)) (value-sum values e.terms (negated_terms f.terms) ∙ ap (λ n. value_of_terms values e.terms +ℤ n) (value-negated values f.terms))
     ∙ sub_pairs (value_of_terms values e.terms) (value_of_terms values f.terms) e.constant f.constant
+
+less_one : (a b : ℤ) → a +ℤ (b -ℤ pos 1) ≡ (a +ℤ b) -ℤ pos 1
+less_one a b = omega (arith, ints)
+
+pub excess-value : (values : List ℤ) (e f row : Linear) → excess_of e f ≡ Ok row → value_of values row ≡ (value_of values e -ℤ value_of values f) -ℤ pos 1
+unfolding excess_of
+excess-value values e f row h =
+    ap (λ form. value_of values form) (sym (sized-parts (sum_terms e.terms (negated_terms f.terms)) ((e.constant -ℤ f.constant) -ℤ pos 1) row h))
+    ∙ ap (λ n. n +ℤ ((e.constant -ℤ f.constant) -ℤ pos 1)) (value-sum values e.terms (negated_terms f.terms) ∙ ap (λ n. value_of_terms values e.terms +ℤ n) (value-negated values f.terms))
+    ∙ less_one (value_of_terms values e.terms -ℤ value_of_terms values f.terms) (e.constant -ℤ f.constant)
+    ∙ ap (λ n. n -ℤ pos 1) (sub_pairs (value_of_terms values e.terms) (value_of_terms values f.terms) e.constant f.constant)
 
 pub product-value : (values : List ℤ) (e product : Linear) (by : ℤ) → product_of e by ≡ Ok product → value_of values product ≡ value_of values e *ℤ by
 product-value values e product by h =

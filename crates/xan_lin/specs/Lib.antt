@@ -5,3 +5,4 @@ pub mod Text
 pub mod Wide
 pub mod Subst
 pub mod Products
+pub mod Same

@@ -52,6 +52,10 @@ difference_of e f = sized (sum_terms e.terms (negated_terms f.terms)) (e.constan
 abbrev pub product_of : Linear → ℤ → Result Linear TooLarge
 product_of e by = sized (scaled_terms e.terms by) (e.constant *ℤ by)
 
+-- the row that holds exactly where `e` is greater than `f`: e - f - 1
+unfoldable pub excess_of : Linear → Linear → Result Linear TooLarge
+excess_of e f = sized (sum_terms e.terms (negated_terms f.terms)) ((e.constant -ℤ f.constant) -ℤ pos 1)
+
 -- the row that holds exactly where the row `e` does not: -e - 1
 abbrev pub negated_row_of : Linear → Result Linear TooLarge
 negated_row_of e = sized (negated_terms e.terms) (neg_ℤ e.constant -ℤ pos 1)

@@ -2,14 +2,19 @@
 ghost use Rattle.std.specs.Prelude.{◌≡◌, ◌↔◌, length, ◌≤◌, ◌++◌, OnOk, OnErr, IfErr, IsTrue};
 ghost use Rattle.xan_lin.specs.Terms.{IsRising};
 ghost use Rattle.xan_lin.specs.Text.{form_text};
-ghost use Rattle.xan_lin.specs.Linear.{are_within, sized, sum_of, difference_of, form_of, product_of, negated_row_of, variable_form, NamesBelow};
+ghost use Rattle.xan_lin.specs.Linear.{are_within, sized, sum_of, difference_of, excess_of, form_of, product_of, negated_row_of, variable_form, NamesBelow};
+ghost use Rattle.std.specs.Bool.{Decides};
+ghost use Rattle.std.specs.Cmp.Lexicographic.{pointwise};
+ghost use Rattle.xan_lin.specs.Same.{same_term, same_form};
 ghost use Rattle.xan_lin.specs.Value.{value_of, Holds};
 ghost use Rattle.xan_lin.specs.Subst.{VariablesRise, subst_of};
 
 use crate::bound::all_are_small;
 use crate::evaluate::value_of_all;
 use crate::gather::gathered;
-use crate::merge::{below_negated, held, merged, negated, number_difference, number_sum};
+use crate::merge::{
+    below_negated, held, merged, negated, number_difference, number_excess, number_sum,
+};
 use crate::product_sum::gathered_products;
 use crate::replace::{constant_after, replaced};
 use crate::scale::{product, scaled};
@@ -142,6 +147,26 @@ impl Form {
         sized_form(terms.as_slice(), &constant)
     }
 
+    /// The row `e - f - 1` for the forms `e` and `f`: it holds exactly where `e` is greater than `f`. `Terms` and `Magnitude` come as at
+    /// `add`, by this row alone: the difference may be past the bound.
+    #[tactic(auto, unfolding(crate::specs::Linear::excess_of))]
+    pub fn excess_row(&self, other: &Form) -> Result<Form, TooLarge>
+        ensures { result ≡ excess_of self.now other.now }
+    {
+        let turned = negated(other.terms.as_slice());
+        let terms = merged(self.terms.as_slice(), turned.as_slice());
+        let constant = number_excess(&self.constant, &other.constant);
+        sized_form(terms.as_slice(), &constant)
+    }
+
+    /// Whether the forms are equal.
+    pub fn is_same(&self, other: &Form) -> bool
+        ensures test { result ≡ same_form self.now other.now }
+        ensures equal { Decides result (self.now ≡ other.now) }
+    {
+        are_same(self, other)
+    }
+
     /// The form in which all listed variables are replaced at once, each by the form that stands beside it. A variable that is not
     /// listed stays where it is less than `below`, and becomes 0 elsewhere. The listed variables rise. `Terms` and `Magnitude` come as
     /// at `add`.
@@ -190,4 +215,18 @@ fn sized_form(terms: &[Term], constant: &i64) -> Result<Form, TooLarge>
         terms: held(terms),
         constant: *constant,
     })
+}
+
+// Whether the terms are equal.
+fn are_same_terms(left: &[Term], right: &[Term]) -> bool
+    ensures { result ≡ pointwise same_term left.now right.now }
+{
+    left == right
+}
+
+// Whether the forms are equal.
+fn are_same(left: &Form, right: &Form) -> bool
+    ensures { result ≡ same_form left.now right.now }
+{
+    left.constant == right.constant && are_same_terms(left.terms.as_slice(), right.terms.as_slice())
 }

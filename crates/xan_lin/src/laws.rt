@@ -1,6 +1,6 @@
 //! What the exact results mean: their values, under every assignment.
 ghost use Rattle.std.specs.Prelude.{◌≡◌, ℕ, ℤ, pos, ◌+ℤ◌, ◌-ℤ◌, ◌*ℤ◌, neg_ℤ, List, Ok};
-ghost use Rattle.xan_lin.specs.Linear.{Linear, sum_of, difference_of, product_of, negated_row_of, form_of, NamesBelow};
+ghost use Rattle.xan_lin.specs.Linear.{Linear, sum_of, difference_of, excess_of, product_of, negated_row_of, form_of, NamesBelow};
 ghost use Rattle.xan_lin.specs.Subst.{Gives, given_values, subst_of};
 ghost use Rattle.xan_lin.specs.Value.{value_of, value_of_terms};
 ghost use Rattle.xan_lin.specs.declared.term.Term.{Term};
@@ -20,6 +20,11 @@ pub fn sum_adds_the_values()
 pub fn difference_subtracts_the_values()
     ensures { (values : List ℤ) (e f difference : Linear) → difference_of e f ≡ Ok difference
         → value_of values difference ≡ value_of values e -ℤ value_of values f }
+{}
+
+/// The value of the excess row of two forms is the difference of the values less 1.
+pub fn excess_takes_the_difference_less_one()
+    ensures { (values : List ℤ) (e f row : Linear) → excess_of e f ≡ Ok row → value_of values row ≡ (value_of values e -ℤ value_of values f) -ℤ pos 1 }
 {}
 
 /// The value of a product by a number is the product of the value by it.

@@ -11,6 +11,7 @@ mod gather;
 mod laws;
 mod lookup;
 mod merge;
+mod number;
 mod product_sum;
 mod replace;
 mod scale;
@@ -22,7 +23,9 @@ mod wide;
 
 pub use crate::form::Form;
 pub use crate::laws::{
-    difference_subtracts_the_values, negated_row_turns_the_value, product_multiplies_the_value,
-    subst_takes_given_values, subst_takes_the_values, sum_adds_the_values, terms_add_their_values,
+    difference_subtracts_the_values, excess_takes_the_difference_less_one,
+    negated_row_turns_the_value, product_multiplies_the_value, subst_takes_given_values,
+    subst_takes_the_values, sum_adds_the_values, terms_add_their_values,
 };
+pub use crate::number::combine_numbers;
 pub use crate::term::{BOUND, LimitKind, Memory, Term, TooLarge};

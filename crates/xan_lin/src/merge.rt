@@ -25,6 +25,15 @@ pub(crate) fn number_difference(left: &i64, right: &i64) -> i64
     *left - *right
 }
 
+// The first number less the second, less 1.
+pub(crate) fn number_excess(left: &i64, right: &i64) -> i64
+    requires left { IsTrue (is_within left.now) }
+    requires right { IsTrue (is_within right.now) }
+    ensures { result ≡ (left.now -ℤ right.now) -ℤ pos 1 }
+{
+    *left - *right - 1
+}
+
 // The number with the other sign, less 1.
 pub(crate) fn below_negated(number: &i64) -> i64
     requires { IsTrue (is_within number.now) }

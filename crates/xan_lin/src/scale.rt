@@ -4,8 +4,8 @@ ghost use Rattle.arrayvec.specs.ArrayVec.{array_vec_len};
 ghost use Rattle.xan_lin.specs.Terms.{scaled_terms, with_multiple};
 ghost use Rattle.xan_lin.specs.Linear.{is_within, all_within};
 
-use crate::bound::is_wide_small;
 use crate::merge::push_multiple;
+use crate::number::narrow;
 use crate::term::Term;
 use crate::wide::exact_product;
 use arrayvec::ArrayVec;
@@ -16,12 +16,7 @@ pub(crate) fn product(left: &i64, right: &i64) -> Option<i64>
     ensures { MatchOption result (is_within (left.now *ℤ right.now) ≡ false)
         (λ number. (number ≡ left.now *ℤ right.now) × (is_within number ≡ true)) }
 {
-    let exact = exact_product(left, right);
-    if is_wide_small(&exact) {
-        Some(exact as i64)
-    } else {
-        None
-    }
+    narrow(&exact_product(left, right))
 }
 
 // The terms, each times a number, where all coefficients stay within the bound.
