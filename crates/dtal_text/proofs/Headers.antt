@@ -9,13 +9,13 @@ use Rattle.xan_read.specs.Reader.{◌>>=◌, Exact}
 use Rattle.xan_read.specs.Combinators.{give, IsGiven, InTurn, behind, IsBehind, literal}
 use Rattle.xan_read.specs.Numbers.{IsNumber, NoDigit}
 use Rattle.xan_read.specs.Names.{in_name, all_in_name, is_name, is_among, IsName, NoName}
-use Rattle.xan_read.proofs.ReaderLaws.{exact-give, exact-behind, exact-in_turn, exact_as}
+use Rattle.xan_read.proofs.ReaderLaws.{exact_same, exact-give, exact-behind, exact-in_turn, exact_as}
 use Rattle.xan_read.proofs.NumberLaws.{exact-number}
 use Rattle.xan_read.proofs.NameLaws.{exact-name}
 use Rattle.dtal_code.specs.Lower.{is_within, is_small_letter, is_word_byte, keywords, is_lower}
 use Rattle.dtal_code.specs.Text.{gap, int_text, params_text, header_text}
 use Rattle.dtal_text.specs.Programs.{int, params, signature, header}
-use Rattle.dtal_text.proofs.Readers.{exact_same, literal-append, bind_same}
+use Rattle.dtal_text.proofs.Readers.{literal-append, bind_same}
 
 -- ---- what the number of parameters decides is a literal
 
@@ -184,7 +184,7 @@ header_from h text i =
       few = omega arith;
       is = i.parts ∙ ap (λ (t : List ℕ). codes "dtal 1\nfun " ++ t) (n.parts ∙ ap (λ (t : List ℕ). t ++ n.back) (sym n.first.is)
           ∙ ap (λ (t : List ℕ). n.value ++ t) (n.second.parts ∙ ap (λ (t : List ℕ). codes " {" ++ t) (s.parts ∙ ap (λ (t : List ℕ). t ++ s.back) count.is
-          ∙ ap (λ (t : List ℕ). decimal s.value ++ t) (s.second.parts ∙ ap (λ (t : List ℕ). tail s.value ++ t) g.no_bytes ∙ append-nil (tail s.value)))))
+          ∙ ap (λ (t : List ℕ). decimal s.value ++ t) (s.second.parts ∙ ap (λ (t : List ℕ). tail s.value ++ t) g.nothing ∙ append-nil (tail s.value)))))
           ∙ whole_header n.value s.value;
     } in
     subst (λ (x : List ℕ × ℕ). IsHeader x text) (sym g.value) made
@@ -206,7 +206,7 @@ header_to (n, count) text i =
             front = decimal count;
             back = tail count;
             first = record { at_least = omega arith; at_most = omega arith; is = refl };
-            second = record { back = []; is = record { value = refl; no_bytes = refl }; parts = sym (append-nil (tail count)) };
+            second = record { back = []; is = record { value = refl; nothing = refl }; parts = sym (append-nil (tail count)) };
             parts = refl;
           };
           parts = refl;

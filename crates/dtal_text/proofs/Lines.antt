@@ -4,10 +4,11 @@ use Rattle.std.specs.Fmt.{signed_decimal}
 use Rattle.std.specs.Int.{w64}
 use Rattle.std.proofs.lemmas.List.{append-nil}
 use Rattle.xan_read.specs.Reader.{Exact}
-use Rattle.xan_read.specs.Combinators.{IsGiven, InTurn, IsBehind, WhereComes, after}
+use Rattle.xan_read.specs.Combinators.{IsGiven, InTurn, IsMade, IsBehind, WhereComes, after}
 use Rattle.xan_read.specs.Numbers.{NoDigit}
+use Rattle.xan_read.specs.Spelled.{Any, Spelled, Both, spaced}
 use Rattle.xan_read.specs.Words.{IsWord}
-use Rattle.xan_read.proofs.ReaderLaws.{exact-give, exact-behind, exact-in_turn, exact-where_comes, exact_as, after_other}
+use Rattle.xan_read.proofs.ReaderLaws.{exact-give, exact-made, exact-behind, exact-in_turn, exact-where_comes, exact_as, after_other}
 use Rattle.xan_read.proofs.WordLaws.{exact-word}
 use Rattle.dtal_code.specs.declared.op.Op.{Op}
 use Rattle.dtal_code.specs.declared.op.Op.TheVariants as ops
@@ -16,27 +17,26 @@ use Rattle.dtal_text.specs.declared.mnemonic.Mnemonic.{Mnemonic}
 use Rattle.dtal_text.specs.declared.mnemonic.Mnemonic.TheVariants.{Li, Mv, Add, Sub, Ret, Print}
 use Rattle.dtal_text.specs.Instructions.{mnemonics, operands, line}
 use Rattle.dtal_text.specs.Programs.{lines}
-use Rattle.dtal_text.proofs.Readers.{IsMade, exact_made}
-use Rattle.dtal_text.proofs.Operands.{Both, spaced, exact-register, exact-place, exact-load, exact-two_places, exact-three_registers}
+use Rattle.dtal_text.proofs.Operands.{exact-register, exact-place, exact-load, exact-two_places, exact-three_registers}
 
 -- ---- what stands behind a word
 
 abbrev pub IsOperands : Mnemonic → Op → List ℕ → Type 0
-IsOperands Li = IsMade (λ x. ops.Li x.0 x.1) (Both IsRegister (FitsSigned w64)) (spaced place_text signed_decimal)
-IsOperands Mv = IsMade (λ x. ops.Mv x.0 x.1) (Both IsPlace IsPlace) (spaced place_text place_text)
-IsOperands Add = IsMade (λ x. ops.Add x.0 x.1.0 x.1.1) (Both IsRegister (Both IsRegister IsRegister)) (spaced place_text (spaced place_text place_text))
-IsOperands Sub = IsMade (λ x. ops.Sub x.0 x.1.0 x.1.1) (Both IsRegister (Both IsRegister IsRegister)) (spaced place_text (spaced place_text place_text))
-IsOperands Ret = IsMade (λ p. ops.Ret p) IsPlace place_text
-IsOperands Print = IsMade (λ ra. ops.Print ra) IsRegister place_text
+IsOperands Li = IsMade (λ x. ops.Li x.0 x.1) (Spelled Any (Both IsRegister (FitsSigned w64)) (spaced place_text signed_decimal))
+IsOperands Mv = IsMade (λ x. ops.Mv x.0 x.1) (Spelled Any (Both IsPlace IsPlace) (spaced place_text place_text))
+IsOperands Add = IsMade (λ x. ops.Add x.0 x.1.0 x.1.1) (Spelled Any (Both IsRegister (Both IsRegister IsRegister)) (spaced place_text (spaced place_text place_text)))
+IsOperands Sub = IsMade (λ x. ops.Sub x.0 x.1.0 x.1.1) (Spelled Any (Both IsRegister (Both IsRegister IsRegister)) (spaced place_text (spaced place_text place_text)))
+IsOperands Ret = IsMade (λ p. ops.Ret p) (Spelled Any IsPlace place_text)
+IsOperands Print = IsMade (λ ra. ops.Print ra) (Spelled Any IsRegister place_text)
 
 pub exact-operands : (m : Mnemonic) → Exact (operands m) (IsOperands m) NoDigit
 unfolding operands
-exact-operands Li = exact_made (λ x. ops.Li x.0 x.1) _ _ _ NoDigit exact-load
-exact-operands Mv = exact_made (λ x. ops.Mv x.0 x.1) _ _ _ NoDigit exact-two_places
-exact-operands Add = exact_made (λ x. ops.Add x.0 x.1.0 x.1.1) _ _ _ NoDigit exact-three_registers
-exact-operands Sub = exact_made (λ x. ops.Sub x.0 x.1.0 x.1.1) _ _ _ NoDigit exact-three_registers
-exact-operands Ret = exact_made (λ p. ops.Ret p) _ _ _ NoDigit exact-place
-exact-operands Print = exact_made (λ ra. ops.Print ra) _ _ _ NoDigit exact-register
+exact-operands Li = exact-made (λ x. ops.Li x.0 x.1) _ _ NoDigit exact-load
+exact-operands Mv = exact-made (λ x. ops.Mv x.0 x.1) _ _ NoDigit exact-two_places
+exact-operands Add = exact-made (λ x. ops.Add x.0 x.1.0 x.1.1) _ _ NoDigit exact-three_registers
+exact-operands Sub = exact-made (λ x. ops.Sub x.0 x.1.0 x.1.1) _ _ NoDigit exact-three_registers
+exact-operands Ret = exact-made (λ p. ops.Ret p) _ _ NoDigit exact-place
+exact-operands Print = exact-made (λ ra. ops.Print ra) _ _ NoDigit exact-register
 
 -- ---- a line
 
@@ -95,36 +95,36 @@ is_word Print = inr (inr (inr (inr (inr (inl (refl, refl))))))
 made_line : (m : Mnemonic) (op : Op) (text : List ℕ) → IsOperands m op text → IsLine op (word_text m ++ (text ++ codes "\n"))
 unfolding word_text
 made_line Li op text i = record {
-  fits = subst IsOp (sym i.value) i.fits;
-  is = ap (λ (t : List ℕ). codes "li " ++ (t ++ codes "\n")) i.is ∙ sym (two_group (codes "li") (place_text i.from.0) (signed_decimal i.from.1) (codes "\n"))
-      ∙ ap (λ o. op_text o ++ codes "\n") (sym i.value);
+  fits = subst IsOp (sym i.made) i.is.fits;
+  is = ap (λ (t : List ℕ). codes "li " ++ (t ++ codes "\n")) i.is.is ∙ sym (two_group (codes "li") (place_text i.value.0) (signed_decimal i.value.1) (codes "\n"))
+      ∙ ap (λ o. op_text o ++ codes "\n") (sym i.made);
 }
 made_line Mv op text i = record {
-  fits = subst IsOp (sym i.value) i.fits;
-  is = ap (λ (t : List ℕ). codes "mv " ++ (t ++ codes "\n")) i.is ∙ sym (two_group (codes "mv") (place_text i.from.0) (place_text i.from.1) (codes "\n"))
-      ∙ ap (λ o. op_text o ++ codes "\n") (sym i.value);
+  fits = subst IsOp (sym i.made) i.is.fits;
+  is = ap (λ (t : List ℕ). codes "mv " ++ (t ++ codes "\n")) i.is.is ∙ sym (two_group (codes "mv") (place_text i.value.0) (place_text i.value.1) (codes "\n"))
+      ∙ ap (λ o. op_text o ++ codes "\n") (sym i.made);
 }
 made_line Add op text i = record {
-  fits = subst IsOp (sym i.value) (i.fits.0, i.fits.1.0, i.fits.1.1);
-  is = ap (λ (t : List ℕ). codes "add " ++ (t ++ codes "\n")) i.is
-      ∙ sym (three_group (codes "add") (place_text i.from.0) (place_text i.from.1.0) (place_text i.from.1.1) (codes "\n"))
-      ∙ ap (λ o. op_text o ++ codes "\n") (sym i.value);
+  fits = subst IsOp (sym i.made) (i.is.fits.0, i.is.fits.1.0, i.is.fits.1.1);
+  is = ap (λ (t : List ℕ). codes "add " ++ (t ++ codes "\n")) i.is.is
+      ∙ sym (three_group (codes "add") (place_text i.value.0) (place_text i.value.1.0) (place_text i.value.1.1) (codes "\n"))
+      ∙ ap (λ o. op_text o ++ codes "\n") (sym i.made);
 }
 made_line Sub op text i = record {
-  fits = subst IsOp (sym i.value) (i.fits.0, i.fits.1.0, i.fits.1.1);
-  is = ap (λ (t : List ℕ). codes "sub " ++ (t ++ codes "\n")) i.is
-      ∙ sym (three_group (codes "sub") (place_text i.from.0) (place_text i.from.1.0) (place_text i.from.1.1) (codes "\n"))
-      ∙ ap (λ o. op_text o ++ codes "\n") (sym i.value);
+  fits = subst IsOp (sym i.made) (i.is.fits.0, i.is.fits.1.0, i.is.fits.1.1);
+  is = ap (λ (t : List ℕ). codes "sub " ++ (t ++ codes "\n")) i.is.is
+      ∙ sym (three_group (codes "sub") (place_text i.value.0) (place_text i.value.1.0) (place_text i.value.1.1) (codes "\n"))
+      ∙ ap (λ o. op_text o ++ codes "\n") (sym i.made);
 }
 made_line Ret op text i = record {
-  fits = subst IsOp (sym i.value) i.fits;
-  is = ap (λ (t : List ℕ). codes "ret " ++ (t ++ codes "\n")) i.is ∙ sym (one_group (codes "ret") (place_text i.from) (codes "\n"))
-      ∙ ap (λ o. op_text o ++ codes "\n") (sym i.value);
+  fits = subst IsOp (sym i.made) i.is.fits;
+  is = ap (λ (t : List ℕ). codes "ret " ++ (t ++ codes "\n")) i.is.is ∙ sym (one_group (codes "ret") (place_text i.value) (codes "\n"))
+      ∙ ap (λ o. op_text o ++ codes "\n") (sym i.made);
 }
 made_line Print op text i = record {
-  fits = subst IsOp (sym i.value) i.fits;
-  is = ap (λ (t : List ℕ). codes "print " ++ (t ++ codes "\n")) i.is ∙ sym (one_group (codes "print") (place_text i.from) (codes "\n"))
-      ∙ ap (λ o. op_text o ++ codes "\n") (sym i.value);
+  fits = subst IsOp (sym i.made) i.is.fits;
+  is = ap (λ (t : List ℕ). codes "print " ++ (t ++ codes "\n")) i.is.is ∙ sym (one_group (codes "print") (place_text i.value) (codes "\n"))
+      ∙ ap (λ o. op_text o ++ codes "\n") (sym i.made);
 }
 
 -- an instruction in range has operands behind a word
@@ -134,12 +134,12 @@ record HasOperands (op : Op) : Type 0 where
   are : IsOperands mnemonic op text
 
 has_operands : (op : Op) → IsOp op → HasOperands op
-has_operands (ops.Li rd z) h = record { mnemonic = Li; text = spaced place_text signed_decimal (rd, z); are = record { from = (rd, z); value = refl; fits = h; is = refl } }
-has_operands (ops.Mv p q) h = record { mnemonic = Mv; text = spaced place_text place_text (p, q); are = record { from = (p, q); value = refl; fits = h; is = refl } }
-has_operands (ops.Add rd ra rb) h = record { mnemonic = Add; text = spaced place_text (spaced place_text place_text) (rd, (ra, rb)); are = record { from = (rd, (ra, rb)); value = refl; fits = (h.0, (h.1, h.2)); is = refl } }
-has_operands (ops.Sub rd ra rb) h = record { mnemonic = Sub; text = spaced place_text (spaced place_text place_text) (rd, (ra, rb)); are = record { from = (rd, (ra, rb)); value = refl; fits = (h.0, (h.1, h.2)); is = refl } }
-has_operands (ops.Ret p) h = record { mnemonic = Ret; text = place_text p; are = record { from = p; value = refl; fits = h; is = refl } }
-has_operands (ops.Print ra) h = record { mnemonic = Print; text = place_text ra; are = record { from = ra; value = refl; fits = h; is = refl } }
+has_operands (ops.Li rd z) h = record { mnemonic = Li; text = spaced place_text signed_decimal (rd, z); are = record { value = (rd, z); made = refl; is = record { known = tt; fits = h; is = refl } } }
+has_operands (ops.Mv p q) h = record { mnemonic = Mv; text = spaced place_text place_text (p, q); are = record { value = (p, q); made = refl; is = record { known = tt; fits = h; is = refl } } }
+has_operands (ops.Add rd ra rb) h = record { mnemonic = Add; text = spaced place_text (spaced place_text place_text) (rd, (ra, rb)); are = record { value = (rd, (ra, rb)); made = refl; is = record { known = tt; fits = (h.0, (h.1, h.2)); is = refl } } }
+has_operands (ops.Sub rd ra rb) h = record { mnemonic = Sub; text = spaced place_text (spaced place_text place_text) (rd, (ra, rb)); are = record { value = (rd, (ra, rb)); made = refl; is = record { known = tt; fits = (h.0, (h.1, h.2)); is = refl } } }
+has_operands (ops.Ret p) h = record { mnemonic = Ret; text = place_text p; are = record { value = p; made = refl; is = record { known = tt; fits = h; is = refl } } }
+has_operands (ops.Print ra) h = record { mnemonic = Print; text = place_text ra; are = record { value = ra; made = refl; is = record { known = tt; fits = h; is = refl } } }
 
 line_from : (op : Op) (text : List ℕ) → IsParts op text → IsLine op text
 line_from op text i =
@@ -148,7 +148,7 @@ line_from op text i =
     let made = made_line i.value s.value s.front s.first in
     let same : text ≡ word_text i.value ++ (s.front ++ codes "\n") =
     i.parts ∙ ap (λ (t : List ℕ). t ++ i.back) (word_is i.value i.front i.first)
-    ∙ ap (λ (t : List ℕ). word_text i.value ++ t) (s.parts ∙ ap (λ (t : List ℕ). s.front ++ t) (s.second.parts ∙ ap (λ (t : List ℕ). codes "\n" ++ t) g.no_bytes)) in
+    ∙ ap (λ (t : List ℕ). word_text i.value ++ t) (s.parts ∙ ap (λ (t : List ℕ). s.front ++ t) (s.second.parts ∙ ap (λ (t : List ℕ). codes "\n" ++ t) g.nothing)) in
     subst (λ (o : Op). IsLine o text) (sym g.value) (subst (IsLine s.value) (sym same) made)
 
 line_to : (op : Op) (text : List ℕ) → IsLine op text → IsParts op text
@@ -165,7 +165,7 @@ line_to op text l =
         front = o.text;
         back = codes "\n";
         first = o.are;
-        second = record { back = []; is = record { value = refl; no_bytes = refl }; parts = refl };
+        second = record { back = []; is = record { value = refl; nothing = refl }; parts = refl };
         parts = refl;
       };
       parts = l.is ∙ sym made.is;
@@ -210,7 +210,7 @@ more_from room code text i =
       few = omega arith;
       fit = all-more i.value s.value i.first.fits s.first.fit;
       is = i.parts ∙ ap (λ (t : List ℕ). t ++ i.back) i.first.is
-          ∙ ap (λ (t : List ℕ). op_text i.value ++ codes "\n" ++ t) (s.parts ∙ ap (λ (t : List ℕ). s.front ++ t) g.no_bytes ∙ append-nil s.front ∙ s.first.is)
+          ∙ ap (λ (t : List ℕ). op_text i.value ++ codes "\n" ++ t) (s.parts ∙ ap (λ (t : List ℕ). s.front ++ t) g.nothing ∙ append-nil s.front ∙ s.first.is)
           ∙ sym (append_assoc (op_text i.value ++ codes "\n") (code_text s.value) (codes "end\n"));
     } in
     subst (λ (c : List Op). AreLines (suc room) c text) (sym g.value) made
@@ -228,7 +228,7 @@ more_to room op ops text a =
         front = code_text ops ++ codes "end\n";
         back = [];
         first = record { few = omega arith; fit = all-rest op ops a.fit; is = refl };
-        second = record { value = refl; no_bytes = refl };
+        second = record { value = refl; nothing = refl };
         parts = sym (append-nil (code_text ops ++ codes "end\n"));
       };
       parts = a.is ∙ append_assoc (op_text op ++ codes "\n") (code_text ops) (codes "end\n");
@@ -253,21 +253,21 @@ end_from room code text rest e1 e2 e3 = rw (e1, e2, e3) (record { few = omega ar
 
 lines_from : (room : ℕ) (code : List Op) (text : List ℕ) → WhereComes 101 (IsBehind (codes "nd\n") (IsGiven [])) (IsMore room) code text → AreLines (suc room) code text
 lines_from room code text (inl i) =
-    let n = i.is in end_from (suc room) code text n.back n.is.value (i.parts ∙ ap (λ (t : List ℕ). 101 ∷ t) n.parts) n.is.no_bytes
+    let n = i.is in end_from (suc room) code text n.back n.is.value (i.parts ∙ ap (λ (t : List ℕ). 101 ∷ t) n.parts) n.is.nothing
 lines_from room code text (inr i) = more_from room code text i
 
 lines_to : (room : ℕ) (code : List Op) (text : List ℕ) → AreLines (suc room) code text → WhereComes 101 (IsBehind (codes "nd\n") (IsGiven [])) (IsMore room) code text
-lines_to room [] text a = inl (record { back = codes "nd\n"; is = record { back = []; is = record { value = refl; no_bytes = refl }; parts = refl }; parts = a.is })
+lines_to room [] text a = inl (record { back = codes "nd\n"; is = record { back = []; is = record { value = refl; nothing = refl }; parts = refl }; parts = a.is })
 lines_to room (op ∷ ops) text a = inr (more_to room op ops text a)
 
 no_room : (code : List Op) (text : List ℕ) → AreLines 0 code text → IsEnd code text
-no_room [] text a = record { back = []; is = record { value = refl; no_bytes = refl }; parts = a.is }
+no_room [] text a = record { back = []; is = record { value = refl; nothing = refl }; parts = a.is }
 no_room (op ∷ ops) text a = let few = a.few in absurd (omega arith)
 
 pub exact-lines : (room : ℕ) → Exact (lines room) (AreLines room) (λ _. Unit {0})
 unfolding lines
 exact-lines zero = exact_as _ IsEnd (AreLines 0) (λ _. Unit {0}) (λ _. Unit {0}) (exact-behind (codes "end\n") _ _ (λ _. Unit {0}) (exact-give []))
-    (λ code text i. end_from 0 code text i.back i.is.value i.parts i.is.no_bytes) no_room (λ _ h. h)
+    (λ code text i. end_from 0 code text i.back i.is.value i.parts i.is.nothing) no_room (λ _ h. h)
 exact-lines (suc room) = exact_as _ (WhereComes 101 (IsBehind (codes "nd\n") (IsGiven [])) (IsMore room)) (AreLines (suc room)) (λ _. Unit {0}) (λ _. Unit {0})
     (exact-where_comes 101 _ _ (IsBehind (codes "nd\n") (IsGiven [])) (IsMore room) (λ _. Unit {0}) (λ _. Unit {0})
     (exact-behind (codes "nd\n") _ _ (λ _. Unit {0}) (exact-give []))

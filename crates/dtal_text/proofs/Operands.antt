@@ -4,16 +4,15 @@ use Rattle.std.specs.Fmt.{signed_decimal}
 use Rattle.std.specs.Int.{w64}
 use Rattle.std.proofs.lemmas.Bool.Decides.{nat_tests}
 use Rattle.xan_read.specs.Reader.{Reader, Exact}
-use Rattle.xan_read.specs.Combinators.{give, in_turn, behind, IsBehind, WhereComes, after}
+use Rattle.xan_read.specs.Combinators.{give, in_turn, behind, IsBehind, IsMade, WhereComes, after}
 use Rattle.xan_read.specs.Numbers.{number, IsNumber, NoDigit}
-use Rattle.xan_read.specs.Spelled.{Any, Spelled, IsBetween}
-use Rattle.xan_read.proofs.ReaderLaws.{exact-behind, exact-where_comes, exact_as, after_other}
+use Rattle.xan_read.specs.Spelled.{Any, Spelled, IsBetween, Both, spaced}
+use Rattle.xan_read.proofs.ReaderLaws.{exact-made, exact-behind, exact-where_comes, exact_as, after_other}
 use Rattle.xan_read.proofs.NumberLaws.{exact-number}
 use Rattle.xan_io.proofs.ArgumentLaws.{exact-integer64}
-use Rattle.xan_read.proofs.SpelledLaws.{spelled_number, spelled_behind, spelled_field, spelled_last}
+use Rattle.xan_read.proofs.SpelledLaws.{spelled_number, spelled_behind, spelled_pair}
 use Rattle.dtal_code.specs.Text.{place_text, IsRegister, IsPlace}
 use Rattle.dtal_text.specs.Instructions.{register, place, load, two_places, two_registers, three_registers}
-use Rattle.dtal_text.proofs.Readers.{IsMade, exact_made}
 
 -- ---- places
 
@@ -35,10 +34,10 @@ exact-register = exact_as _ (Spelled Any (IsBetween 0 15) (λ n. codes "r" ++ de
     (λ _ h. h)
 
 abbrev IsSlot : ℕ → List ℕ → Type 0
-IsSlot = IsBehind (codes "s") (IsMade (λ n. n + 16) (IsBetween 0 239) decimal)
+IsSlot = IsBehind (codes "s") (IsMade (λ n. n + 16) (Spelled Any (IsBetween 0 239) decimal))
 
 exact-slot : Exact (behind (codes "s") (in_turn (number 0 239) (λ n. give (n + 16)))) IsSlot NoDigit
-exact-slot = exact-behind (codes "s") _ _ NoDigit (exact_made (λ n. n + 16) _ _ _ NoDigit (spelled_number 0 239 (omega arith) (omega arith)))
+exact-slot = exact-behind (codes "s") _ _ NoDigit (exact-made (λ n. n + 16) _ _ NoDigit (spelled_number 0 239 (omega arith) (omega arith)))
 
 abbrev IsPlaceText : ℕ → List ℕ → Type 0
 IsPlaceText = WhereComes 114 (IsNumber 0 15) IsSlot
@@ -49,12 +48,12 @@ place_from p text (inl i) =
     record { known = tt; fits = omega arith; is = i.parts ∙ ap (λ (t : List ℕ). codes "r" ++ t) i.is.is ∙ sym (register_text p (omega arith)) }
 place_from p text (inr i) =
     let m = i.is in
-    let high = m.fits.1 in
-    let value = m.value in
+    let high = m.is.fits.1 in
+    let made = m.made in
     record {
       known = tt;
       fits = omega arith;
-      is = i.parts ∙ ap (λ (t : List ℕ). codes "s" ++ t) m.is ∙ sym (slot_text m.from) ∙ ap place_text (sym m.value);
+      is = i.parts ∙ ap (λ (t : List ℕ). codes "s" ++ t) m.is.is ∙ sym (slot_text m.value) ∙ ap place_text (sym m.made);
     }
 
 place_to : (p : ℕ) (text : List ℕ) → Spelled Any IsPlace place_text p text → IsPlaceText p text
@@ -70,7 +69,7 @@ place_to p text s = go (nat_lt p 16) refl
         let same : p ≡ (p - 16) + 16 = omega arith in
         inr (record {
           back = decimal (p - 16);
-          is = record { from = p - 16; value = same; fits = (omega arith, omega arith); is = refl };
+          is = record { value = p - 16; made = same; is = record { known = tt; fits = (omega arith, omega arith); is = refl } };
           parts = s.is ∙ ap place_text same ∙ slot_text (p - 16);
         })
 
@@ -83,34 +82,18 @@ exact-place = exact_as _ IsPlaceText _ NoDigit NoDigit
 
 -- ---- two and three of them
 
-module _ {A B : Type 0} (p : Reader A) (q : Reader B) (P : A → Type 0) (Q : B → Type 0) (first : A → List ℕ) (second : B → List ℕ)
-    (one : Exact p (Spelled Any P first) NoDigit) (other : Exact q (Spelled Any Q second) NoDigit) where
-  pub exact_pair : Exact (in_turn p (λ a. behind (codes " ") (in_turn q (λ b. give (a, b)))))
-      (Spelled Any (λ (m : A × B). P m.0 × Q m.1) (λ (m : A × B). first m.0 ++ (codes " " ++ second m.1))) NoDigit
-  exact_pair =
-      spelled_field (λ (m : A × B). m.0) _ _ Any P (λ (m : A × B). Q m.1) first (λ (m : A × B). codes " " ++ second m.1) NoDigit NoDigit one
-      (λ a _. spelled_behind (codes " ") _ _ _ _ NoDigit
-      (spelled_last (λ (m : A × B). m.1) (λ b. (a, b)) _ (λ (m : A × B). Unit {0} × (m.0 ≡ a)) Q second NoDigit other (λ _. (tt, refl)) (λ _. refl) (λ m known. rw (← known.1) refl)))
-      (λ _ _ _ _. refl)
-
-abbrev pub Both : {A B : Type 0} → (A → Type 0) → (B → Type 0) → A × B → Type 0
-Both P Q m = P m.0 × Q m.1
-
-abbrev pub spaced : {A B : Type 0} → (A → List ℕ) → (B → List ℕ) → A × B → List ℕ
-spaced first second m = first m.0 ++ (codes " " ++ second m.1)
-
 pub exact-load : Exact load (Spelled Any (Both IsRegister (FitsSigned w64)) (spaced place_text signed_decimal)) NoDigit
 unfolding load
-exact-load = exact_pair _ _ _ _ place_text signed_decimal exact-register exact-integer64
+exact-load = spelled_pair _ _ _ _ place_text signed_decimal NoDigit NoDigit exact-register exact-integer64 (λ _. refl)
 
 pub exact-two_places : Exact two_places (Spelled Any (Both IsPlace IsPlace) (spaced place_text place_text)) NoDigit
 unfolding two_places
-exact-two_places = exact_pair _ _ _ _ place_text place_text exact-place exact-place
+exact-two_places = spelled_pair _ _ _ _ place_text place_text NoDigit NoDigit exact-place exact-place (λ _. refl)
 
 pub exact-two_registers : Exact two_registers (Spelled Any (Both IsRegister IsRegister) (spaced place_text place_text)) NoDigit
 unfolding two_registers
-exact-two_registers = exact_pair _ _ _ _ place_text place_text exact-register exact-register
+exact-two_registers = spelled_pair _ _ _ _ place_text place_text NoDigit NoDigit exact-register exact-register (λ _. refl)
 
 pub exact-three_registers : Exact three_registers (Spelled Any (Both IsRegister (Both IsRegister IsRegister)) (spaced place_text (spaced place_text place_text))) NoDigit
 unfolding three_registers
-exact-three_registers = exact_pair _ _ _ _ place_text (spaced place_text place_text) exact-register exact-two_registers
+exact-three_registers = spelled_pair _ _ _ _ place_text (spaced place_text place_text) NoDigit NoDigit exact-register exact-two_registers (λ _. refl)

@@ -76,7 +76,7 @@ program_to p bytes is =
         front = code_text p.code ++ codes "end\n";
         back = [];
         first = record { few = is.few; fit = s.ops; is = refl };
-        second = record { value = refl; no_bytes = refl };
+        second = record { value = refl; nothing = refl };
         parts = sym (append-nil (code_text p.code ++ codes "end\n"));
       };
       parts = is.spells.text ∙ append_assoc (header_text p.name p.params) (code_text p.code) (codes "end\n");
@@ -93,7 +93,7 @@ program_from p bytes i short ends =
       few = few;
       spells = record {
         text = i.parts ∙ ap (λ (t : List ℕ). t ++ i.back) i.first.is
-            ∙ ap (λ (t : List ℕ). header_text i.value.0 i.value.1 ++ t) (s.parts ∙ ap (λ (t : List ℕ). s.front ++ t) g.no_bytes ∙ append-nil s.front ∙ s.first.is)
+            ∙ ap (λ (t : List ℕ). header_text i.value.0 i.value.1 ++ t) (s.parts ∙ ap (λ (t : List ℕ). s.front ++ t) g.nothing ∙ append-nil s.front ∙ s.first.is)
             ∙ sym (append_assoc (header_text i.value.0 i.value.1) (code_text s.value) (codes "end\n"));
         straight = record {
           name = i.first.name;

@@ -13,7 +13,7 @@ use Rattle.xan_read.specs.Lists.{Ends}
 use Rattle.xan_read.specs.Numbers.{IsNumber, NoDigit, number}
 use Rattle.xan_read.specs.Integers.{IsSigned, with_sign, signed}
 use Rattle.xan_read.specs.Spelled.{Any, Spelled}
-use Rattle.xan_read.proofs.ReaderLaws.{exact-in_turn, exact-where_comes, exact_as, after_other}
+use Rattle.xan_read.proofs.ReaderLaws.{given, passed, exact-in_turn, exact-where_comes, exact_as, after_other}
 use Rattle.xan_read.proofs.NumberLaws.{exact-number}
 use Rattle.xan_read.proofs.IntegerLaws.{exact-signed}
 use Rattle.proof_lines.specs.declared.form_text.Part.{Part}
@@ -21,7 +21,6 @@ use Rattle.proof_lines.specs.declared.form_text.Part.TheVariants as part
 use Rattle.proof_lines.specs.Spelling.{AreVariables}
 use Rattle.proof_lines.specs.Reading.{may_have_variable, term_of, after_number, form_part, with_front, after_part, constant_form, form}
 use Rattle.proof_lines.proofs.Proper.{both, join}
-use Rattle.proof_lines.proofs.Readers.{given, passed}
 
 -- what may follow a form
 abbrev pub Stops : List ℕ → Type 0
@@ -60,7 +59,7 @@ exact-after_number low z = go (may_have_variable low z) refl
         let few : low ≤ 4294967295 = below low parts.1 in
         exact-where_comes 118 (variable_of z low) (give (part.Constant z)) (IsVariableOf z low) (IsGiven (part.Constant z)) Stops Stops
         (exact-variable z low few) (given (part.Constant z) Stops)
-        (λ x text rest g h. (h, subst (λ (t : List ℕ). after 118 (t ++ rest) ≡ None) (sym g.no_bytes) h.list))
+        (λ x text rest g h. (h, subst (λ (t : List ℕ). after 118 (t ++ rest) ≡ None) (sym g.nothing) h.list))
       where
         below : (n : ℕ) → nat_lt n 4294967296 ≡ true → n ≤ 4294967295
         below n h = grind (arith, nat_tests)
@@ -90,7 +89,7 @@ follows_number false low z y back rest g h = passed (part.Constant z) y NoDigit 
 part_from_constant : (low : ℕ) (z : ℤ) (y : Part) (front back text : List ℕ) → IsSigned 0 4611686018427387903 z front → IsGiven (part.Constant z) y back → text ≡ front ++ back → IsPart low y text
 part_from_constant low z y front back text i g parts =
     subst (λ (p : Part). IsPart low p text) (sym g.value)
-    (subst (IsSigned 0 4611686018427387903 z) (sym (parts ∙ ap (λ (t : List ℕ). front ++ t) g.no_bytes ∙ append-nil front)) i)
+    (subst (IsSigned 0 4611686018427387903 z) (sym (parts ∙ ap (λ (t : List ℕ). front ++ t) g.nothing ∙ append-nil front)) i)
 
 nonzero_from : (z : ℤ) → not (int_eq z (pos 0)) ≡ true → z ≢ pos 0
 nonzero_from z e h = let same = (Decides-int_eq z (pos 0)).1 h in absurd (differ (int_eq z (pos 0)) e same)
@@ -119,14 +118,14 @@ part_from low y text i = go (may_have_variable low i.value) refl i.second
           at_least = number_is.at_least;
           at_most = number_is.at_most;
           is = i.parts ∙ ap (λ (t : List ℕ). t ++ i.back) i.first.is
-              ∙ ap (λ (t : List ℕ). with_sign i.value ++ t) (v.parts ∙ ap (λ (t : List ℕ). 118 ∷ t) (v.is.parts ∙ ap (λ (t : List ℕ). v.is.front ++ t) v.is.second.no_bytes ∙ append-nil v.is.front ∙ number_is.is));
+              ∙ ap (λ (t : List ℕ). with_sign i.value ++ t) (v.parts ∙ ap (λ (t : List ℕ). 118 ∷ t) (v.is.parts ∙ ap (λ (t : List ℕ). v.is.front ++ t) v.is.second.nothing ∙ append-nil v.is.front ∙ number_is.is));
         })
     go true e (inr g) = part_from_constant low i.value y i.front i.back text i.first g i.parts
     go false e g = part_from_constant low i.value y i.front i.back text i.first g i.parts
 
 constant_after : (b : Bool) (low : ℕ) (z : ℤ) → IsAfter b low z (part.Constant z) []
-constant_after true low z = inr (record { value = refl; no_bytes = refl })
-constant_after false low z = record { value = refl; no_bytes = refl }
+constant_after true low z = inr (record { value = refl; nothing = refl })
+constant_after false low z = record { value = refl; nothing = refl }
 
 part_to : (low : ℕ) (y : Part) (text : List ℕ) → IsPart low y text → IsPartInTurn low y text
 part_to low (part.Constant z) text i = record {
@@ -152,7 +151,7 @@ part_to low (part.Term t) text p =
           front = decimal t.var;
           back = [];
           first = record { at_least = p.at_least; at_most = p.at_most; is = refl };
-          second = record { value = refl; no_bytes = refl };
+          second = record { value = refl; nothing = refl };
           parts = sym (append-nil (decimal t.var));
         };
         parts = refl;
@@ -236,7 +235,7 @@ form_stops (t ∷ ts) z more =
 
 rest_stops : (room : ℕ) (p : Part) (y : Linear) (back rest : List ℕ) → IsRest room p y back → Stops rest → Stops (back ++ rest)
 rest_stops room (part.Term t) y back rest i h =
-    subst (λ (s : List ℕ). Stops (s ++ rest)) (sym (i.parts ∙ ap (λ (s : List ℕ). i.front ++ s) i.second.no_bytes ∙ append-nil i.front ∙ i.first.is))
+    subst (λ (s : List ℕ). Stops (s ++ rest)) (sym (i.parts ∙ ap (λ (s : List ℕ). i.front ++ s) i.second.nothing ∙ append-nil i.front ∙ i.first.is))
     (form_stops i.value.terms i.value.constant rest)
 rest_stops room (part.Constant z) y back rest g h = passed (constant_form z) y Stops back rest g h
 
@@ -253,7 +252,7 @@ constant_at room low z text i = record {
 form_from : (room low : ℕ) (p : Part) (y : Linear) (front back text : List ℕ) → IsPart low p front → IsRest room p y back → text ≡ front ++ back → FormAt (suc room) low y text
 form_from room low (part.Constant z) y front back text i g parts =
     subst (λ (f : Linear). FormAt (suc room) low f text) (sym g.value)
-    (constant_at (suc room) low z text (subst (IsSigned 0 4611686018427387903 z) (sym (parts ∙ ap (λ (t : List ℕ). front ++ t) g.no_bytes ∙ append-nil front)) i))
+    (constant_at (suc room) low z text (subst (IsSigned 0 4611686018427387903 z) (sym (parts ∙ ap (λ (t : List ℕ). front ++ t) g.nothing ∙ append-nil front)) i))
 form_from room low (part.Term t) y front back text p i parts =
     let f = i.value in
     let at = i.first in
@@ -266,7 +265,7 @@ form_from room low (part.Term t) y front back text p i parts =
       small_constant = at.small_constant;
       variables = (p.at_most, at.variables);
       is = parts ∙ ap (λ (s : List ℕ). s ++ back) p.is
-          ∙ ap (λ (s : List ℕ). (with_sign t.coef ++ (118 ∷ decimal t.var)) ++ s) (i.parts ∙ ap (λ (s : List ℕ). i.front ++ s) i.second.no_bytes ∙ append-nil i.front ∙ at.is)
+          ∙ ap (λ (s : List ℕ). (with_sign t.coef ++ (118 ∷ decimal t.var)) ++ s) (i.parts ∙ ap (λ (s : List ℕ). i.front ++ s) i.second.nothing ∙ append-nil i.front ∙ at.is)
           ∙ front-text t f;
     })
 
@@ -280,7 +279,7 @@ form_to room low [] z text at = record {
   front = text;
   back = [];
   first = record { at_least = omega arith; at_most = within_to z at.small_constant; is = at.is ∙ sym (constant-text z) };
-  second = record { value = refl; no_bytes = refl };
+  second = record { value = refl; nothing = refl };
   parts = sym (append-nil text);
 }
 form_to room low (t ∷ ts) z text at =
@@ -297,7 +296,7 @@ form_to room low (t ∷ ts) z text at =
         front = form_text f;
         back = [];
         first = record { rising = at.rising.2; few = omega arith; small = small.1; small_constant = at.small_constant; variables = at.variables.1; is = refl };
-        second = record { value = refl; no_bytes = refl };
+        second = record { value = refl; nothing = refl };
         parts = sym (append-nil (form_text f));
       };
       parts = at.is ∙ sym (front-text t f);
@@ -309,7 +308,7 @@ exact-form zero low = exact_as _ (InTurn (IsSigned 0 4611686018427387903) (λ z.
     (exact-in_turn _ _ (IsSigned 0 4611686018427387903) (λ z. IsGiven (constant_form z)) NoDigit Stops exact-number_of (λ z _ _. given (constant_form z) Stops)
     (λ z y back rest g h. passed (constant_form z) y NoDigit back rest g h.item))
     (λ y text i. subst (λ (f : Linear). FormAt 0 low f text) (sym i.second.value)
-    (constant_at 0 low i.value text (subst (IsSigned 0 4611686018427387903 i.value) (sym (i.parts ∙ ap (λ (t : List ℕ). i.front ++ t) i.second.no_bytes ∙ append-nil i.front)) i.first)))
+    (constant_at 0 low i.value text (subst (IsSigned 0 4611686018427387903 i.value) (sym (i.parts ∙ ap (λ (t : List ℕ). i.front ++ t) i.second.nothing ∙ append-nil i.front)) i.first)))
     (λ y text at. only_constant y.terms y.constant text at)
     (λ _ h. h)
   where
@@ -320,7 +319,7 @@ exact-form zero low = exact_as _ (InTurn (IsSigned 0 4611686018427387903) (λ z.
       front = text;
       back = [];
       first = record { at_least = omega arith; at_most = within_to z at.small_constant; is = at.is ∙ sym (constant-text z) };
-      second = record { value = refl; no_bytes = refl };
+      second = record { value = refl; nothing = refl };
       parts = sym (append-nil text);
     }
     only_constant (t ∷ ts) z text at = let few = at.few in absurd (omega arith)

@@ -13,7 +13,6 @@ pub mod Steps
 pub mod Walking
 pub mod Exact
 pub mod Soundness
-pub mod Readers
 pub mod Forms
 pub mod FormLoop
 pub mod LineTexts

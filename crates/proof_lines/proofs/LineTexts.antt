@@ -3,18 +3,18 @@ use Rattle.std.proofs.Common.{◌≡◌, inl, inr, ℕ, ℤ, List, [], ◌∷◌
 use Rattle.std.specs.Fmt.{signed_decimal}
 use Rattle.xan_lin.specs.Text.{form_text}
 use Rattle.xan_read.specs.Reader.{Exact, whole_text, ReadsWhole}
-use Rattle.xan_read.specs.Combinators.{IsGiven, InTurn, IsBehind, after}
+use Rattle.xan_read.specs.Combinators.{IsGiven, InTurn, IsMade, IsBehind, after}
 use Rattle.xan_read.specs.Lists.{Ends, AreBehind, IsSeparated}
 use Rattle.xan_read.specs.Numbers.{NoDigit, number}
 use Rattle.xan_read.specs.Integers.{IsInteger, integer}
-use Rattle.xan_read.specs.Spelled.{Any, Spelled, IsBetween}
+use Rattle.xan_read.specs.Spelled.{Any, Spelled, IsBetween, Both, spaced}
 use Rattle.xan_read.specs.Words.{IsWord}
 use Rattle.xan_read.specs.Code.{Fails}
 use Rattle.xan_read.specs.declared.fault.ReadError.{ReadError}
 use Rattle.xan_read.specs.declared.fault.ReadError.TheVariants as reading
-use Rattle.xan_read.proofs.ReaderLaws.{exact-in_turn, exact-behind, exact_as, after_other, reads_whole}
+use Rattle.xan_read.proofs.ReaderLaws.{given, exact-made, exact-in_turn, exact-behind, exact_as, after_other, reads_whole}
 use Rattle.xan_read.proofs.IntegerLaws.{exact-integer}
-use Rattle.xan_read.proofs.SpelledLaws.{spelled_number}
+use Rattle.xan_read.proofs.SpelledLaws.{spelled_number, spelled_pair}
 use Rattle.xan_read.proofs.ListLaws.{exact-separated}
 use Rattle.xan_read.proofs.WordLaws.{exact-word}
 use Rattle.proof_lines.specs.declared.line.Line.{Line}
@@ -24,7 +24,6 @@ use Rattle.proof_lines.specs.declared.line_text.Kind.{Kind}
 use Rattle.proof_lines.specs.declared.line_text.Kind.TheVariants as kind
 use Rattle.proof_lines.specs.Spelling.{line_text, more_text, IsRowNumber, IsMultiplier, IsLine, AreLines, IsLinesText, Refuses, said_of}
 use Rattle.proof_lines.specs.Reading.{multiple, two_multiples, division, kinds, operands, one_line, lines}
-use Rattle.proof_lines.proofs.Readers.{given, IsMade, exact_made, exact_pair, Both, spaced}
 use Rattle.proof_lines.proofs.Forms.{Stops, IsFormLine, spelled-form}
 
 -- ---- numbers
@@ -43,15 +42,15 @@ multiple_text = spaced signed_decimal decimal
 
 exact-multiple : Exact multiple (Spelled Any (Both IsMultiplier IsRowNumber) multiple_text) NoDigit
 unfolding multiple
-exact-multiple = exact_pair _ _ _ _ signed_decimal decimal exact-multiplier exact-row
+exact-multiple = spelled_pair _ _ _ _ signed_decimal decimal NoDigit NoDigit exact-multiplier exact-row (λ _. refl)
 
 exact-two_multiples : Exact two_multiples (Spelled Any (Both (Both IsMultiplier IsRowNumber) (Both IsMultiplier IsRowNumber)) (spaced multiple_text multiple_text)) NoDigit
 unfolding two_multiples
-exact-two_multiples = exact_pair _ _ _ _ multiple_text multiple_text exact-multiple exact-multiple
+exact-two_multiples = spelled_pair _ _ _ _ multiple_text multiple_text NoDigit NoDigit exact-multiple exact-multiple (λ _. refl)
 
 exact-division : Exact division (Spelled Any (Both IsRowNumber IsMultiplier) (spaced decimal signed_decimal)) NoDigit
 unfolding division
-exact-division = exact_pair _ _ _ _ decimal signed_decimal exact-row exact-multiplier
+exact-division = spelled_pair _ _ _ _ decimal signed_decimal NoDigit NoDigit exact-row exact-multiplier (λ _. refl)
 
 -- ---- what stands behind the first byte
 
@@ -62,17 +61,17 @@ abbrev as_cut : ℕ × ℤ → Line
 as_cut x = line.Cut x.0 x.1
 
 abbrev IsOperands : Kind → Line → List ℕ → Type 0
-IsOperands kind.Hyp = IsMade (λ e. line.Hyp e) IsFormLine form_text
+IsOperands kind.Hyp = IsMade (λ e. line.Hyp e) (Spelled Any IsFormLine form_text)
 IsOperands kind.Goal = IsGiven line.Goal
-IsOperands kind.Comb = IsMade as_combination (Both (Both IsMultiplier IsRowNumber) (Both IsMultiplier IsRowNumber)) (spaced multiple_text multiple_text)
-IsOperands kind.Cut = IsMade as_cut (Both IsRowNumber IsMultiplier) (spaced decimal signed_decimal)
+IsOperands kind.Comb = IsMade as_combination (Spelled Any (Both (Both IsMultiplier IsRowNumber) (Both IsMultiplier IsRowNumber)) (spaced multiple_text multiple_text))
+IsOperands kind.Cut = IsMade as_cut (Spelled Any (Both IsRowNumber IsMultiplier) (spaced decimal signed_decimal))
 
 exact-operands : (k : Kind) → Exact (operands k) (IsOperands k) Stops
 unfolding operands
-exact-operands kind.Hyp = exact_made (λ e. line.Hyp e) _ _ form_text Stops spelled-form
+exact-operands kind.Hyp = exact-made (λ e. line.Hyp e) _ _ Stops spelled-form
 exact-operands kind.Goal = given line.Goal Stops
-exact-operands kind.Comb = exact_as _ _ _ NoDigit Stops (exact_made as_combination _ _ _ NoDigit exact-two_multiples) (λ _ _ h. h) (λ _ _ h. h) (λ _ h. h.item)
-exact-operands kind.Cut = exact_as _ _ _ NoDigit Stops (exact_made as_cut _ _ _ NoDigit exact-division) (λ _ _ h. h) (λ _ _ h. h) (λ _ h. h.item)
+exact-operands kind.Comb = exact_as _ _ _ NoDigit Stops (exact-made as_combination _ _ NoDigit exact-two_multiples) (λ _ _ h. h) (λ _ _ h. h) (λ _ h. h.item)
+exact-operands kind.Cut = exact_as _ _ _ NoDigit Stops (exact-made as_cut _ _ NoDigit exact-division) (λ _ _ h. h) (λ _ _ h. h) (λ _ h. h.item)
 
 -- ---- a line
 
@@ -104,20 +103,20 @@ is_kind kind.Cut = inr (inr (inr (inl (refl, refl))))
 made_line : (k : Kind) (l : Line) (text : List ℕ) → IsOperands k l text → IsLineText l (kind_text k ++ text)
 unfolding kind_text line_text
 made_line kind.Hyp l text i = record {
-  fits = subst IsLine (sym i.value) i.fits;
-  is = ap (λ (t : List ℕ). codes "h " ++ t) i.is ∙ ap line_text (sym i.value);
+  fits = subst IsLine (sym i.made) i.is.fits;
+  is = ap (λ (t : List ℕ). codes "h " ++ t) i.is.is ∙ ap line_text (sym i.made);
 }
 made_line kind.Goal l text i = record {
   fits = subst IsLine (sym i.value) tt;
-  is = ap (λ (t : List ℕ). codes "g" ++ t) i.no_bytes ∙ ap line_text (sym i.value);
+  is = ap (λ (t : List ℕ). codes "g" ++ t) i.nothing ∙ ap line_text (sym i.value);
 }
 made_line kind.Comb l text i = record {
-  fits = subst IsLine (sym i.value) (i.fits.0.0, i.fits.0.1, i.fits.1.0, i.fits.1.1);
-  is = ap (λ (t : List ℕ). codes "c " ++ t) i.is ∙ ap line_text (sym i.value);
+  fits = subst IsLine (sym i.made) (i.is.fits.0.0, i.is.fits.0.1, i.is.fits.1.0, i.is.fits.1.1);
+  is = ap (λ (t : List ℕ). codes "c " ++ t) i.is.is ∙ ap line_text (sym i.made);
 }
 made_line kind.Cut l text i = record {
-  fits = subst IsLine (sym i.value) i.fits;
-  is = ap (λ (t : List ℕ). codes "t " ++ t) i.is ∙ ap line_text (sym i.value);
+  fits = subst IsLine (sym i.made) i.is.fits;
+  is = ap (λ (t : List ℕ). codes "t " ++ t) i.is.is ∙ ap line_text (sym i.made);
 }
 
 record HasOperands (l : Line) : Type 0 where
@@ -126,14 +125,14 @@ record HasOperands (l : Line) : Type 0 where
   are : IsOperands kind_of l text
 
 has_operands : (l : Line) → IsLine l → HasOperands l
-has_operands (line.Hyp e) h = record { kind_of = kind.Hyp; text = form_text e; are = record { from = e; value = refl; fits = h; is = refl } }
-has_operands line.Goal h = record { kind_of = kind.Goal; text = []; are = record { value = refl; no_bytes = refl } }
+has_operands (line.Hyp e) h = record { kind_of = kind.Hyp; text = form_text e; are = record { value = e; made = refl; is = record { known = tt; fits = h; is = refl } } }
+has_operands line.Goal h = record { kind_of = kind.Goal; text = []; are = record { value = refl; nothing = refl } }
 has_operands (line.Comb left_by left right_by right) h = record {
   kind_of = kind.Comb;
   text = spaced multiple_text multiple_text ((left_by, left), (right_by, right));
-  are = record { from = ((left_by, left), (right_by, right)); value = refl; fits = ((h.0, h.1), (h.2, h.3)); is = refl };
+  are = record { value = ((left_by, left), (right_by, right)); made = refl; is = record { known = tt; fits = ((h.0, h.1), (h.2, h.3)); is = refl } };
 }
-has_operands (line.Cut row by) h = record { kind_of = kind.Cut; text = spaced decimal signed_decimal (row, by); are = record { from = (row, by); value = refl; fits = h; is = refl } }
+has_operands (line.Cut row by) h = record { kind_of = kind.Cut; text = spaced decimal signed_decimal (row, by); are = record { value = (row, by); made = refl; is = record { known = tt; fits = h; is = refl } } }
 
 abbrev IsLineInTurn : Line → List ℕ → Type 0
 IsLineInTurn = InTurn (IsWord kinds) IsOperands

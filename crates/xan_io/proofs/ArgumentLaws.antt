@@ -82,7 +82,7 @@ unfolding cells after
 exact-cells room = exact-by_next (λ _. true) _ _ _ (IsGiven []) (λ _. Unit {0}) AtEnd
     (exact_as _ _ _ (Ends NoDigit 44) AtEnd (exact-separated 44 word_number IsNumber64 NoDigit exact-number (λ _. refl) room) (λ _ _ h. h) (λ _ _ h. h)
     (λ rest h. subst (λ (t : List ℕ). Ends NoDigit 44 t) (sym h) (record { item = tt; list = refl })))
-    (exact-give []) (λ numbers text rest s h. starts room numbers text rest s) (λ numbers text rest g h. (tt, none_next text rest g.no_bytes h))
+    (exact-give []) (λ numbers text rest s h. starts room numbers text rest s) (λ numbers text rest g h. (tt, none_next text rest g.nothing h))
 
 behind_is : (cells : List ℤ) (text : List ℕ) → AreBehind 44 IsNumber64 cells text → AreWords cells × (text ≡ further_cells cells)
 behind_is [] text h = (tt, h)
@@ -99,10 +99,10 @@ cells_are room [] text (inl s) = absurd s
 cells_are room (z ∷ zs) text (inl s) =
     let rest = behind_is zs s.1 s.3.are in
     ((s.2.fits, rest.0), s.4 ∙ ap (λ (t : List ℕ). t ++ s.1) s.2.is ∙ ap (λ (t : List ℕ). signed_decimal z ++ t) rest.1)
-cells_are room numbers text (inr g) = (subst AreWords (sym g.value) tt, g.no_bytes ∙ ap cells_text (sym g.value))
+cells_are room numbers text (inr g) = (subst AreWords (sym g.value) tt, g.nothing ∙ ap cells_text (sym g.value))
 
 cells_from : (room : ℕ) (numbers : List ℤ) → AreWords numbers → length (cells_text numbers) ≤ room → AreCells room numbers (cells_text numbers)
-cells_from room [] h few = inr (record { value = refl; no_bytes = refl })
+cells_from room [] h few = inr (record { value = refl; nothing = refl })
 cells_from room (z ∷ zs) h few =
     let l = length-append (signed_decimal z) (further_cells zs) in
     let m = further_nonempty zs in
@@ -128,11 +128,11 @@ ended (b ∷ back) rest e h = absurd cc
 exact-behind_head : (room : ℕ) (h : Head) → Exact (behind_head room h) (IsBehindHead room h) AtEnd
 unfolding behind_head
 exact-behind_head room head.Int = exact-in_turn _ _ IsNumber64 (λ number. IsGiven (Int number)) NoDigit AtEnd exact-number (λ number _ _. given (Int number))
-    (λ number y back rest g h. subst NoDigit (sym (ended back rest g.no_bytes h)) tt)
+    (λ number y back rest g h. subst NoDigit (sym (ended back rest g.nothing h)) tt)
 exact-behind_head room head.True = given (Bool true)
 exact-behind_head room head.False = given (Bool false)
 exact-behind_head room head.Array = exact-in_turn _ _ (AreCells room) (λ numbers. IsGiven (Array numbers)) AtEnd AtEnd (exact-cells room) (λ numbers _ _. given (Array numbers))
-    (λ numbers y back rest g h. ended back rest g.no_bytes h)
+    (λ numbers y back rest g h. ended back rest g.nothing h)
 
 -- ---- a whole word
 
@@ -170,12 +170,12 @@ made arg given text back e words t is = record { words = subst IsWordArg (sym e)
 
 behind_head_is : (room : ℕ) (h : Head) (arg : Arg) (back : List ℕ) → IsBehindHead room h arg back → IsArg arg (head_text h ++ back)
 behind_head_is room head.Int arg back i =
-    made arg (Int i.value) _ _ i.second.value i.first.fits (ap (λ (t : List ℕ). codes "int=" ++ t) (i.parts ∙ ap (λ (t : List ℕ). i.front ++ t) i.second.no_bytes ∙ append-nil i.front ∙ i.first.is)) refl
-behind_head_is room head.True arg back g = made arg (Bool true) _ _ g.value tt (ap (λ (t : List ℕ). codes "bool=true" ++ t) g.no_bytes) refl
-behind_head_is room head.False arg back g = made arg (Bool false) _ _ g.value tt (ap (λ (t : List ℕ). codes "bool=false" ++ t) g.no_bytes) refl
+    made arg (Int i.value) _ _ i.second.value i.first.fits (ap (λ (t : List ℕ). codes "int=" ++ t) (i.parts ∙ ap (λ (t : List ℕ). i.front ++ t) i.second.nothing ∙ append-nil i.front ∙ i.first.is)) refl
+behind_head_is room head.True arg back g = made arg (Bool true) _ _ g.value tt (ap (λ (t : List ℕ). codes "bool=true" ++ t) g.nothing) refl
+behind_head_is room head.False arg back g = made arg (Bool false) _ _ g.value tt (ap (λ (t : List ℕ). codes "bool=false" ++ t) g.nothing) refl
 behind_head_is room head.Array arg back i =
     let are = cells_are room i.value i.front i.first in
-    made arg (Array i.value) _ _ i.second.value are.0 (ap (λ (t : List ℕ). codes "arr=" ++ t) (i.parts ∙ ap (λ (t : List ℕ). i.front ++ t) i.second.no_bytes ∙ append-nil i.front ∙ are.1)) refl
+    made arg (Array i.value) _ _ i.second.value are.0 (ap (λ (t : List ℕ). codes "arr=" ++ t) (i.parts ∙ ap (λ (t : List ℕ). i.front ++ t) i.second.nothing ∙ append-nil i.front ∙ are.1)) refl
 
 front_is : (room : ℕ) (arg : Arg) (text : List ℕ) → IsFront room arg text → IsArg arg text
 front_is room arg text i =
@@ -186,11 +186,11 @@ turned room h arg back i = record { value = h; front = head_text h; back = back;
 
 front_from : (room : ℕ) (arg : Arg) → IsWordArg arg → length (arg_text arg) ≤ room → IsFront room arg (arg_text arg)
 front_from room (Int number) h few = turned room head.Int (Int number) (signed_decimal number)
-    (record { value = number; front = signed_decimal number; back = []; first = record { known = tt; fits = h; is = refl }; second = record { value = refl; no_bytes = refl }; parts = sym (append-nil (signed_decimal number)) })
-front_from room (Bool true) h few = turned room head.True (Bool true) [] (record { value = refl; no_bytes = refl })
-front_from room (Bool false) h few = turned room head.False (Bool false) [] (record { value = refl; no_bytes = refl })
+    (record { value = number; front = signed_decimal number; back = []; first = record { known = tt; fits = h; is = refl }; second = record { value = refl; nothing = refl }; parts = sym (append-nil (signed_decimal number)) })
+front_from room (Bool true) h few = turned room head.True (Bool true) [] (record { value = refl; nothing = refl })
+front_from room (Bool false) h few = turned room head.False (Bool false) [] (record { value = refl; nothing = refl })
 front_from room (Array numbers) h few = turned room head.Array (Array numbers) (cells_text numbers)
-    (record { value = numbers; front = cells_text numbers; back = []; first = cells_from room numbers h (omega (arith, few)); second = record { value = refl; no_bytes = refl }; parts = sym (append-nil (cells_text numbers)) })
+    (record { value = numbers; front = cells_text numbers; back = []; first = cells_from room numbers h (omega (arith, few)); second = record { value = refl; nothing = refl }; parts = sym (append-nil (cells_text numbers)) })
 
 -- ---- the two laws
 

@@ -4,32 +4,23 @@ use Rattle.std.specs.Prelude.{ℤ, pos, negsuc, neg_ℤ, decimal}
 use Rattle.std.specs.Char.{is_ascii_digit}
 use Rattle.std.proofs.lemmas.List.{append-nil}
 use Rattle.xan_read.specs.Reader.{Exact}
-use Rattle.xan_read.specs.Combinators.{IsGiven, InTurn, IsBehind, after, WhereComes}
+use Rattle.xan_read.specs.Combinators.{IsMade, IsBehind, after, WhereComes}
 use Rattle.xan_read.specs.Numbers.{IsNumber, NoDigit, number}
 use Rattle.xan_read.specs.Integers.{number_as, negative, IsInteger, integer, IsSigned, signed}
-use Rattle.xan_read.proofs.ReaderLaws.{exact-give, exact-in_turn, exact-behind, exact-where_comes, exact_as, after_other}
+use Rattle.xan_read.proofs.ReaderLaws.{exact-made, exact-behind, exact-where_comes, exact_as, after_other}
 use Rattle.xan_read.proofs.NumberLaws.{exact-number, digit_first}
 
 -- a number, seen as an integer
-pub record IsNumberAs (made : ℕ → ℤ) (low high : ℕ) (z : ℤ) (text : List ℕ) : Type 0 where
-  pub number : ℕ
-  pub is : IsNumber low high number text
-  pub value : z ≡ made number
+abbrev pub IsNumberAs : (ℕ → ℤ) → ℕ → ℕ → ℤ → List ℕ → Type 0
+IsNumberAs make low high = IsMade make (IsNumber low high)
 
-pub exact-number_as : (made : ℕ → ℤ) (low high : ℕ) → low ≤ high → high < 2 ^ 64 → Exact (number_as made low high) (IsNumberAs made low high) NoDigit
-exact-number_as made low high order fits =
-    exact_as _ (InTurn (IsNumber low high) (λ n. IsGiven (made n))) (IsNumberAs made low high) NoDigit NoDigit
-    (exact-in_turn (number low high) _ (IsNumber low high) (λ n. IsGiven (made n)) NoDigit NoDigit (exact-number low high order fits)
-    (λ n front is. exact_as _ (IsGiven (made n)) (IsGiven (made n)) (λ _. Unit {0}) NoDigit (exact-give (made n)) (λ _ _ h. h) (λ _ _ h. h) (λ _ _. tt))
-    (λ n z back rest g h. subst (λ (t : List ℕ). NoDigit (t ++ rest)) (sym g.no_bytes) h))
-    (λ z text t. record { number = t.value; is = subst (λ (s : List ℕ). IsNumber low high t.value s) (sym (t.parts ∙ ap (λ (s : List ℕ). t.front ++ s) t.second.no_bytes ∙ append-nil t.front)) t.first; value = t.second.value })
-    (λ z text n. record { value = n.number; front = text; back = []; first = n.is; second = record { value = n.value; no_bytes = refl }; parts = sym (append-nil text) })
-    (λ rest h. h)
+pub exact-number_as : (make : ℕ → ℤ) (low high : ℕ) → low ≤ high → high < 2 ^ 64 → Exact (number_as make low high) (IsNumberAs make low high) NoDigit
+exact-number_as make low high order fits = exact-made make (number low high) (IsNumber low high) NoDigit (exact-number low high order fits)
 
 -- a number begins with a digit, and so with no sign
 no_sign : (c low high : ℕ) (made : ℕ → ℤ) (z : ℤ) (text rest : List ℕ) → high < 2 ^ 64 → is_ascii_digit c ≡ false → IsNumberAs made low high z text → after c (text ++ rest) ≡ None
 no_sign c low high made z text rest fits none n =
-    let f = digit_first low high n.number text fits n.is in
+    let f = digit_first low high n.value text fits n.is in
     ap (λ (t : List ℕ). after c (t ++ rest)) f.parts ∙ after_other c f.first (f.others ++ rest) (λ e. absurd (differs c f.first e none f.digit))
   where
     differs : (c b : ℕ) → b ≡ c → is_ascii_digit c ≡ false → is_ascii_digit b ≡ true → ⊥
@@ -37,16 +28,16 @@ no_sign c low high made z text rest fits none n =
 
 module _ (below above : ℕ) (some : 1 ≤ below) (low : below < 2 ^ 64) (high : above < 2 ^ 64) where
   integer_is : (z : ℤ) (text : List ℕ) → WhereComes 45 (IsNumberAs negative 1 below) (IsNumberAs pos 0 above) z text → IsInteger below above z text
-  integer_is z text (inl b) = subst (λ (y : ℤ). IsInteger below above y text) (sym b.is.value) (go b.is.number b.is.is)
+  integer_is z text (inl b) = subst (λ (y : ℤ). IsInteger below above y text) (sym b.is.made) (go b.is.value b.is.is)
     where
       go : (n : ℕ) → IsNumber 1 below n b.back → IsInteger below above (neg_ℤ (pos n)) text
       go zero n = absurd (omega (arith, n.at_least))
       go (suc m) n = record { within = n.at_most; is = b.parts ∙ ap (λ (t : List ℕ). 45 ∷ t) n.is }
-  integer_is z text (inr n) = subst (λ (y : ℤ). IsInteger below above y text) (sym n.value) (record { within = n.is.at_most; is = n.is.is })
+  integer_is z text (inr n) = subst (λ (y : ℤ). IsInteger below above y text) (sym n.made) (record { within = n.is.at_most; is = n.is.is })
 
   integer_from : (z : ℤ) (text : List ℕ) → IsInteger below above z text → WhereComes 45 (IsNumberAs negative 1 below) (IsNumberAs pos 0 above) z text
-  integer_from (pos n) text i = inr (record { number = n; is = record { at_least = omega arith; at_most = i.within; is = i.is }; value = refl })
-  integer_from (negsuc n) text i = inl (record { back = decimal (suc n); parts = i.is; is = record { number = suc n; is = record { at_least = omega arith; at_most = i.within; is = refl }; value = refl } })
+  integer_from (pos n) text i = inr (record { value = n; is = record { at_least = omega arith; at_most = i.within; is = i.is }; made = refl })
+  integer_from (negsuc n) text i = inl (record { back = decimal (suc n); parts = i.is; is = record { value = suc n; is = record { at_least = omega arith; at_most = i.within; is = refl }; made = refl } })
 
   pub exact-integer : Exact (integer below above) (IsInteger below above) NoDigit
   unfolding integer
@@ -57,17 +48,17 @@ module _ (below above : ℕ) (some : 1 ≤ below) (low : below < 2 ^ 64) (high :
 
 module _ (low high : ℕ) (some : 1 ≤ high) (order : low ≤ high) (fits : high < 2 ^ 64) where
   signed_is : (z : ℤ) (text : List ℕ) → WhereComes 43 (IsNumberAs pos low high) (IsBehind (45 ∷ []) (IsNumberAs negative (max low 1) high)) z text → IsSigned low high z text
-  signed_is z text (inl b) = subst (λ (y : ℤ). IsSigned low high y text) (sym b.is.value)
+  signed_is z text (inl b) = subst (λ (y : ℤ). IsSigned low high y text) (sym b.is.made)
       (record { at_least = b.is.is.at_least; at_most = b.is.is.at_most; is = b.parts ∙ ap (λ (t : List ℕ). 43 ∷ t) b.is.is.is })
-  signed_is z text (inr b) = subst (λ (y : ℤ). IsSigned low high y text) (sym b.is.value) (go b.is.number b.is.is)
+  signed_is z text (inr b) = subst (λ (y : ℤ). IsSigned low high y text) (sym b.is.made) (go b.is.value b.is.is)
     where
       go : (n : ℕ) → IsNumber (max low 1) high n b.back → IsSigned low high (neg_ℤ (pos n)) text
       go zero n = absurd (omega (arith, n.at_least))
       go (suc m) n = record { at_least = omega (arith, n.at_least); at_most = n.at_most; is = b.parts ∙ ap (λ (t : List ℕ). 45 ∷ t) n.is }
 
   signed_from : (z : ℤ) (text : List ℕ) → IsSigned low high z text → WhereComes 43 (IsNumberAs pos low high) (IsBehind (45 ∷ []) (IsNumberAs negative (max low 1) high)) z text
-  signed_from (pos n) text i = inl (record { back = decimal n; parts = i.is; is = record { number = n; is = record { at_least = i.at_least; at_most = i.at_most; is = refl }; value = refl } })
-  signed_from (negsuc n) text i = inr (record { back = decimal (suc n); parts = i.is; is = record { number = suc n; is = record { at_least = omega (arith, i.at_least); at_most = i.at_most; is = refl }; value = refl } })
+  signed_from (pos n) text i = inl (record { back = decimal n; parts = i.is; is = record { value = n; is = record { at_least = i.at_least; at_most = i.at_most; is = refl }; made = refl } })
+  signed_from (negsuc n) text i = inr (record { back = decimal (suc n); parts = i.is; is = record { value = suc n; is = record { at_least = omega (arith, i.at_least); at_most = i.at_most; is = refl }; made = refl } })
 
   pub exact-signed : Exact (signed low high) (IsSigned low high) NoDigit
   unfolding signed

@@ -1,3 +1,8 @@
+pub mod AlikeLaws
+pub mod RoomLaws
+pub mod TableLaws
+pub mod RemainingLists
+pub mod UntilLaws
 pub mod ReaderLaws
 pub mod Ranges
 pub mod NumberLaws

@@ -11,27 +11,19 @@ use Rattle.xan_read.specs.Numbers.{IsNumber, NoDigit}
 use Rattle.xan_read.specs.Integers.{IsInteger, IsSigned}
 use Rattle.xan_read.specs.Names.{NoName}
 use Rattle.xan_read.specs.Sample.{keywords, register, slots, coefficient, one_integer, begins_integer, optional_integer, values, line, IsRegister, AreSlots, AreValues, IsLine}
-use Rattle.xan_read.proofs.ReaderLaws.{exact-give, exact-in_turn, exact-behind, exact-where_comes, exact-by_next, exact_as, after_other}
+use Rattle.xan_read.proofs.ReaderLaws.{given, passed, exact-give, exact-in_turn, exact-behind, exact-where_comes, exact-by_next, exact_as, after_other}
 use Rattle.xan_read.proofs.NumberLaws.{exact-number, digit_first}
 use Rattle.xan_read.proofs.IntegerLaws.{exact-integer, exact-signed}
 use Rattle.xan_read.proofs.ListLaws.{exact-repeated, exact-separated, exact-closed}
 use Rattle.xan_read.proofs.WordLaws.{exact-word}
 use Rattle.xan_read.proofs.NameLaws.{exact-name}
 
--- a value without bytes, where less may follow
-given : {A : Type 0} (x : A) (Stops : List ℕ → Type 0) → Exact (give x) (IsGiven x) Stops
-given x Stops = exact_as _ (IsGiven x) (IsGiven x) (λ _. Unit {0}) Stops (exact-give x) (λ _ _ h. h) (λ _ _ h. h) (λ _ _. tt)
-
--- what may follow a value without bytes is what may follow the one before it
-passed : {A : Type 0} (x y : A) (Stops : List ℕ → Type 0) (back rest : List ℕ) → IsGiven x y back → Stops rest → Stops (back ++ rest)
-passed x y Stops back rest g h = subst (λ (t : List ℕ). Stops (t ++ rest)) (sym g.no_bytes) h
-
 exact-register : Exact register IsRegister (Ends NoDigit 58)
 unfolding register
 exact-register = exact-where_comes 58 _ _ _ (IsGiven None) (λ _. Unit {0}) (Ends NoDigit 58)
     (exact-in_turn _ _ (IsNumber 0 15) (λ n. IsGiven (Some n)) NoDigit (Ends NoDigit 58) (exact-number 0 15 (omega arith) (omega arith)) (λ n _ _. given (Some n) (Ends NoDigit 58))
     (λ n y back rest g h. passed (Some n) y NoDigit back rest g h.item))
-    (exact-give None) (λ x text rest g h. (tt, subst (λ (t : List ℕ). after 58 (t ++ rest) ≡ None) (sym g.no_bytes) h.list))
+    (exact-give None) (λ x text rest g h. (tt, subst (λ (t : List ℕ). after 58 (t ++ rest) ≡ None) (sym g.nothing) h.list))
 
 exact-slots : Exact slots AreSlots (Ends NoDigit 47)
 unfolding slots
@@ -67,8 +59,8 @@ exact-optional : Exact optional_integer (AreValues 0) After
 unfolding optional_integer
 exact-optional = exact-by_next begins_integer _ _ _ (IsGiven []) (λ _. Unit {0}) After
     (exact_as _ _ _ NoDigit After exact-one (λ _ _ h. h) (λ _ _ h. h) (λ rest h. h.ends.item)) (exact-give [])
-    (λ x text rest i h. ap (next_passes begins_integer) (ap (λ (t : List ℕ). t ++ rest) (i.parts ∙ ap (λ (t : List ℕ). i.front ++ t) i.second.no_bytes ∙ append-nil i.front)) ∙ integer_first i.value i.front rest i.first)
-    (λ x text rest g h. (tt, ap (λ (t : List ℕ). next_passes begins_integer (t ++ rest)) g.no_bytes ∙ h.none))
+    (λ x text rest i h. ap (next_passes begins_integer) (ap (λ (t : List ℕ). t ++ rest) (i.parts ∙ ap (λ (t : List ℕ). i.front ++ t) i.second.nothing ∙ append-nil i.front)) ∙ integer_first i.value i.front rest i.first)
+    (λ x text rest g h. (tt, ap (λ (t : List ℕ). next_passes begins_integer (t ++ rest)) g.nothing ∙ h.none))
 
 exact-values : (kind : ℕ) → Exact (values kind) (AreValues kind) After
 unfolding values
@@ -92,7 +84,7 @@ behind_register P Q y back rest colon slash equals i = go i.first
   where
     go : IsRegister i.value i.front → P (back ++ rest)
     go (inl b) = subst P (sym (ap (λ (t : List ℕ). t ++ rest) (i.parts ∙ ap (λ (t : List ℕ). t ++ i.back) b.parts))) (colon ((b.back ++ i.back) ++ rest))
-    go (inr g) = subst P (sym (ap (λ (t : List ℕ). t ++ rest) (i.parts ∙ ap (λ (t : List ℕ). t ++ i.back) g.no_bytes))) (behind_slots P (Q i.value) y i.back rest slash equals i.second)
+    go (inr g) = subst P (sym (ap (λ (t : List ℕ). t ++ rest) (i.parts ∙ ap (λ (t : List ℕ). t ++ i.back) g.nothing))) (behind_slots P (Q i.value) y i.back rest slash equals i.second)
 
 other : (c b : ℕ) (t : List ℕ) → (b ≡ c → ⊥) → NoDigit (b ∷ t) → Ends NoDigit c (b ∷ t)
 other c b t ne item = record { item = item; list = after_other c b t ne }

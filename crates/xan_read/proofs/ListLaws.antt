@@ -4,7 +4,7 @@ use Rattle.std.proofs.lemmas.List.{append-nil}
 use Rattle.xan_read.specs.Reader.{Reader, Exact}
 use Rattle.xan_read.specs.Combinators.{give, IsGiven, in_turn, InTurn, behind, IsBehind, after, WhereComes}
 use Rattle.xan_read.specs.Lists.{IsRepeated, repeated, IsSeparated, separated, IsClosed, closed, Ends}
-use Rattle.xan_read.proofs.ReaderLaws.{exact-give, exact-in_turn, exact-behind, exact-where_comes, exact_as, after_other}
+use Rattle.xan_read.proofs.ReaderLaws.{given, passed, exact-give, exact-in_turn, exact-behind, exact-where_comes, exact_as, after_other}
 
 module _ {A : Type 0} (c : ℕ) (p : Reader A) (Is : A → List ℕ → Type 0) (Stops : List ℕ → Type 0) (exact : Exact p Is Stops) (next : (rest : List ℕ) → Stops (c ∷ rest)) where
   -- what follows an item: the rest of the list, and then what follows the list
@@ -20,17 +20,16 @@ module _ {A : Type 0} (c : ℕ) (p : Reader A) (Is : A → List ℕ → Type 0) 
   unfolding Front
   exact_front room more = exact-in_turn p _ Is _ Stops (Ends Stops c) exact
       (λ x front is. exact-in_turn (repeated c room p) _ (IsRepeated c room Is) (λ xs. IsGiven (x ∷ xs)) (Ends Stops c) (Ends Stops c) more
-      (λ xs front is. exact_as _ (IsGiven (x ∷ xs)) (IsGiven (x ∷ xs)) (λ _. Unit {0}) (Ends Stops c) (exact-give (x ∷ xs)) (λ _ _ h. h) (λ _ _ h. h) (λ _ _. tt))
-      (λ xs y back rest given h. subst (λ (t : List ℕ). Ends Stops c (t ++ rest)) (sym given.no_bytes) h))
+      (λ xs front is. given (x ∷ xs) (Ends Stops c)) (λ xs y back rest g h. passed (x ∷ xs) y (Ends Stops c) back rest g h))
       (λ x y back rest is h. behind_item room is.value back rest (repeated_back x y back is) h)
     where
       repeated_back : (x : A) (y : List A) (back : List ℕ) (is : InTurn (IsRepeated c room Is) (λ xs. IsGiven (x ∷ xs)) y back) → IsRepeated c room Is is.value back
-      repeated_back x y back is = subst (λ (t : List ℕ). IsRepeated c room Is is.value t) (sym (is.parts ∙ ap (λ (t : List ℕ). is.front ++ t) is.second.no_bytes ∙ append-nil is.front)) is.first
+      repeated_back x y back is = subst (λ (t : List ℕ). IsRepeated c room Is is.value t) (sym (is.parts ∙ ap (λ (t : List ℕ). is.front ++ t) is.second.nothing ∙ append-nil is.front)) is.first
 
   front_is : (room : ℕ) (y : List A) (text : List ℕ) → Front room y text → IsSeparated c room Is y text
   unfolding Front
   front_is room y text f = subst (λ (z : List A). IsSeparated c room Is z text) (sym f.second.second.value)
-      (f.front, f.back, f.first, subst (λ (t : List ℕ). IsRepeated c room Is f.second.value t) (sym (f.second.parts ∙ ap (λ (t : List ℕ). f.second.front ++ t) f.second.second.no_bytes ∙ append-nil f.second.front)) f.second.first, f.parts)
+      (f.front, f.back, f.first, subst (λ (t : List ℕ). IsRepeated c room Is f.second.value t) (sym (f.second.parts ∙ ap (λ (t : List ℕ). f.second.front ++ t) f.second.second.nothing ∙ append-nil f.second.front)) f.second.first, f.parts)
 
   front_from : (room : ℕ) (y : List A) (text : List ℕ) → IsSeparated c room Is y text → Front room y text
   unfolding Front
@@ -41,7 +40,7 @@ module _ {A : Type 0} (c : ℕ) (p : Reader A) (Is : A → List ℕ → Type 0) 
     back = s.1;
     first = s.2;
     parts = s.4;
-    second = record { value = xs; front = s.1; back = []; first = s.3; second = record { value = refl; no_bytes = refl }; parts = sym (append-nil s.1) };
+    second = record { value = xs; front = s.1; back = []; first = s.3; second = record { value = refl; nothing = refl }; parts = sym (append-nil s.1) };
   }
 
   repeated_is : (room : ℕ) (xs : List A) (text : List ℕ) → WhereComes c (Front room) (IsGiven []) xs text → IsRepeated c (suc room) Is xs text
@@ -50,10 +49,10 @@ module _ {A : Type 0} (c : ℕ) (p : Reader A) (Is : A → List ℕ → Type 0) 
       go : (xs : List A) → IsSeparated c room Is xs b.back → IsRepeated c (suc room) Is xs text
       go [] s = absurd s
       go (x ∷ xs) s = record { few = omega (arith, s.3.few); are = (s.0, s.1, s.2, s.3.are, b.parts ∙ ap (λ (t : List ℕ). c ∷ t) s.4) }
-  repeated_is room xs text (inr g) = subst (λ (ys : List A). IsRepeated c (suc room) Is ys text) (sym g.value) (record { few = omega arith; are = g.no_bytes })
+  repeated_is room xs text (inr g) = subst (λ (ys : List A). IsRepeated c (suc room) Is ys text) (sym g.value) (record { few = omega arith; are = g.nothing })
 
   repeated_from : (room : ℕ) (xs : List A) (text : List ℕ) → IsRepeated c (suc room) Is xs text → WhereComes c (Front room) (IsGiven []) xs text
-  repeated_from room [] text r = inr (record { value = refl; no_bytes = r.are })
+  repeated_from room [] text r = inr (record { value = refl; nothing = r.are })
   repeated_from room (x ∷ xs) text r = inl (record {
     back = r.are.0 ++ r.are.1;
     parts = r.are.4;
@@ -61,10 +60,10 @@ module _ {A : Type 0} (c : ℕ) (p : Reader A) (Is : A → List ℕ → Type 0) 
   })
 
   none_is : (xs : List A) (text : List ℕ) → IsGiven [] xs text → IsRepeated c 0 Is xs text
-  none_is xs text g = subst (λ (ys : List A). IsRepeated c 0 Is ys text) (sym g.value) (record { few = omega arith; are = g.no_bytes })
+  none_is xs text g = subst (λ (ys : List A). IsRepeated c 0 Is ys text) (sym g.value) (record { few = omega arith; are = g.nothing })
 
   none_from : (xs : List A) (text : List ℕ) → IsRepeated c 0 Is xs text → IsGiven [] xs text
-  none_from [] text r = record { value = refl; no_bytes = r.are }
+  none_from [] text r = record { value = refl; nothing = r.are }
   none_from (x ∷ xs) text r = absurd (omega (arith, r.few))
 
   pub exact-repeated : (room : ℕ) → Exact (repeated c room p) (IsRepeated c room Is) (Ends Stops c)
@@ -72,7 +71,7 @@ module _ {A : Type 0} (c : ℕ) (p : Reader A) (Is : A → List ℕ → Type 0) 
   exact-repeated zero = exact_as (give []) (IsGiven []) (IsRepeated c 0 Is) (λ _. Unit {0}) (Ends Stops c) (exact-give []) none_is none_from (λ _ _. tt)
   exact-repeated (suc room) = exact_as _ (WhereComes c (Front room) (IsGiven [])) (IsRepeated c (suc room) Is) (Ends Stops c) (Ends Stops c)
       (exact-where_comes c _ (give []) (Front room) (IsGiven []) (λ _. Unit {0}) (Ends Stops c) (exact_front room (exact-repeated room)) (exact-give [])
-      (λ x text rest g h. (tt, subst (λ (t : List ℕ). after c (t ++ rest) ≡ None) (sym g.no_bytes) h.list)))
+      (λ x text rest g h. (tt, subst (λ (t : List ℕ). after c (t ++ rest) ≡ None) (sym g.nothing) h.list)))
       (repeated_is room) (repeated_from room) (λ _ h. h)
 
   pub exact-separated : (room : ℕ) → Exact (separated c room p) (IsSeparated c room Is) (Ends Stops c)
@@ -107,33 +106,33 @@ module _ {A : Type 0} (c : ℕ) (p : Reader A) (Is : A → List ℕ → Type 0) 
     body_is room y text b = subst (λ (z : List A). IsClosed c end (suc room) Is z text) (sym b.second.is.value) (go b.value b.first)
       where
         whole : text ≡ b.front ++ end ∷ []
-        whole = b.parts ∙ ap (λ (t : List ℕ). b.front ++ t) (b.second.parts ∙ ap (λ (t : List ℕ). end ∷ t) b.second.is.no_bytes)
+        whole = b.parts ∙ ap (λ (t : List ℕ). b.front ++ t) (b.second.parts ∙ ap (λ (t : List ℕ). end ∷ t) b.second.is.nothing)
 
         go : (xs : List A) → IsSeparated c room Is xs b.front → IsClosed c end (suc room) Is xs text
         go [] s = absurd s
         go (x ∷ xs) s = (b.front, s, whole)
 
     closed_is : (room : ℕ) (y : List A) (text : List ℕ) → WhereComes end (IsGiven []) (Body room) y text → IsClosed c end (suc room) Is y text
-    closed_is room y text (inl e) = subst (λ (z : List A). IsClosed c end (suc room) Is z text) (sym e.is.value) (e.parts ∙ ap (λ (t : List ℕ). end ∷ t) e.is.no_bytes)
+    closed_is room y text (inl e) = subst (λ (z : List A). IsClosed c end (suc room) Is z text) (sym e.is.value) (e.parts ∙ ap (λ (t : List ℕ). end ∷ t) e.is.nothing)
     closed_is room y text (inr b) = body_is room y text b
 
     closed_from : (room : ℕ) (y : List A) (text : List ℕ) → IsClosed c end (suc room) Is y text → WhereComes end (IsGiven []) (Body room) y text
     unfolding Body
-    closed_from room [] text e = inl (record { back = []; is = record { value = refl; no_bytes = refl }; parts = e })
+    closed_from room [] text e = inl (record { back = []; is = record { value = refl; nothing = refl }; parts = e })
     closed_from room (x ∷ xs) text e = inr (record {
       value = x ∷ xs;
       front = e.0;
       back = end ∷ [];
       first = e.1;
       parts = e.2;
-      second = record { back = []; is = record { value = refl; no_bytes = refl }; parts = refl };
+      second = record { back = []; is = record { value = refl; nothing = refl }; parts = refl };
     })
 
     empty_is : (y : List A) (text : List ℕ) → IsBehind (end ∷ []) (IsGiven []) y text → IsClosed c end 0 Is y text
-    empty_is y text e = subst (λ (z : List A). IsClosed c end 0 Is z text) (sym e.is.value) (e.parts ∙ ap (λ (t : List ℕ). end ∷ t) e.is.no_bytes)
+    empty_is y text e = subst (λ (z : List A). IsClosed c end 0 Is z text) (sym e.is.value) (e.parts ∙ ap (λ (t : List ℕ). end ∷ t) e.is.nothing)
 
     empty_from : (y : List A) (text : List ℕ) → IsClosed c end 0 Is y text → IsBehind (end ∷ []) (IsGiven []) y text
-    empty_from [] text e = record { back = []; is = record { value = refl; no_bytes = refl }; parts = e }
+    empty_from [] text e = record { back = []; is = record { value = refl; nothing = refl }; parts = e }
     empty_from (x ∷ xs) text e = absurd e
 
     pub exact-closed : (room : ℕ) → Exact (closed c end room p) (IsClosed c end room Is) (λ _. Unit {0})

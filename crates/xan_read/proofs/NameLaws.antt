@@ -8,7 +8,7 @@ use Rattle.std.proofs.lemmas.List.{length-append, length-replicate, take_at, dro
 use Rattle.std.proofs.lemmas.Slice.Eq.{bytes_eq-Decides}
 use Rattle.xan_read.specs.Reader.{Alike, Found, Faulty, Exact}
 use Rattle.xan_read.specs.Names.{in_name, all_in_name, is_name, is_among, IsName, NoName, begins_lower, run, after_byte, name}
-use Rattle.xan_read.proofs.ReaderLaws.{done, ok_parts, err_is, alike_self}
+use Rattle.xan_read.proofs.AlikeLaws.{done, ok_parts, err_is, alike_self}
 
 -- ---- the run of bytes of a name
 

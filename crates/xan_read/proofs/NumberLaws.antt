@@ -10,7 +10,7 @@ use Rattle.std.proofs.lemmas.Fmt.{decimal_digit, decimal-digits_value, digits_de
 use Rattle.xan_read.specs.Reader.{Alike, Found, Faulty, Exact}
 use Rattle.xan_read.specs.Numbers.{IsNumber, NoDigit, can_begin, stop_at, value_behind, digits_behind, number}
 use Rattle.xan_read.proofs.Ranges.{AreDigits, completed, can_from}
-use Rattle.xan_read.proofs.ReaderLaws.{done, ok_parts, err_is}
+use Rattle.xan_read.proofs.AlikeLaws.{done, ok_parts, err_is}
 
 numerals : IsNumeralModel (λ ds. all_ascii_digits ds ≡ true) (value_behind 0)
 numerals = numerals_by_fold _ tells_all_ascii_digits value_behind (search rules)

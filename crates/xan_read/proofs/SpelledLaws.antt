@@ -1,12 +1,12 @@
 -- The laws of the combinators, where a value has one spelling.
 use Rattle.std.proofs.Common.{◌≡◌, ℕ, ◌^◌, ◌<◌, ◌≤◌, List, [], ◌++◌, refl, sym, ap, subst, ◌∙◌}
-use Rattle.std.specs.Prelude.{decimal}
+use Rattle.std.specs.Prelude.{codes, decimal}
 use Rattle.std.proofs.lemmas.List.{append-nil}
 use Rattle.xan_read.specs.Reader.{Reader, Exact}
 use Rattle.xan_read.specs.Combinators.{give, IsGiven, in_turn, InTurn, behind, IsBehind}
 use Rattle.xan_read.specs.Numbers.{IsNumber, NoDigit, number}
-use Rattle.xan_read.specs.Spelled.{Any, Spelled, IsBetween}
-use Rattle.xan_read.proofs.ReaderLaws.{exact-give, exact-in_turn, exact-behind, exact_as}
+use Rattle.xan_read.specs.Spelled.{Any, Spelled, IsBetween, Both, spaced}
+use Rattle.xan_read.proofs.ReaderLaws.{given, passed, exact-in_turn, exact-behind, exact_as}
 use Rattle.xan_read.proofs.NumberLaws.{exact-number}
 
 pub spelled_number : (low high : ℕ) → low ≤ high → high < 2 ^ 64 → Exact (number low high) (Spelled Any (IsBetween low high) decimal) NoDigit
@@ -50,13 +50,12 @@ module _ {A B : Type 0} (field : B → A) (make : A → B) (p : Reader A) (Known
       → Exact (in_turn p (λ x. give (make x))) (Spelled Known (λ y. Fits (field y)) (λ y. spelling (field y))) Stops
   spelled_last exact known same made = exact_as _ (InTurn (Spelled Any Fits spelling) (λ x. IsGiven (make x))) _ Stops Stops
       (exact-in_turn p _ _ _ Stops Stops exact
-      (λ x text i. exact_as _ (IsGiven (make x)) (IsGiven (make x)) (λ _. Unit {0}) Stops (exact-give (make x)) (λ _ _ h. h) (λ _ _ h. h) (λ _ _. tt))
-      (λ x y text rest g h. subst (λ (t : List ℕ). Stops (t ++ rest)) (sym g.no_bytes) h))
+      (λ x text i. given (make x) Stops) (λ x y text rest g h. passed (make x) y Stops text rest g h))
       (λ y text i. let e : field y ≡ i.value = ap field i.second.value ∙ same i.value in
       record {
         known = subst Known (sym i.second.value) (known i.value);
         fits = subst Fits (sym e) i.first.fits;
-        is = i.parts ∙ ap (λ (t : List ℕ). i.front ++ t) i.second.no_bytes ∙ append-nil i.front ∙ i.first.is ∙ ap spelling (sym e);
+        is = i.parts ∙ ap (λ (t : List ℕ). i.front ++ t) i.second.nothing ∙ append-nil i.front ∙ i.first.is ∙ ap spelling (sym e);
       })
       (λ y text s. record {
         value = field y;
@@ -64,5 +63,15 @@ module _ {A B : Type 0} (field : B → A) (make : A → B) (p : Reader A) (Known
         back = [];
         parts = s.is ∙ sym (append-nil (spelling (field y)));
         first = record { known = tt; fits = s.fits; is = refl };
-        second = record { value = made y s.known; no_bytes = refl };
+        second = record { value = made y s.known; nothing = refl };
       }) (λ _ h. h)
+
+-- two values with a space between
+module _ {A B : Type 0} (p : Reader A) (q : Reader B) (P : A → Type 0) (Q : B → Type 0) (first : A → List ℕ) (second : B → List ℕ) (Between After : List ℕ → Type 0)
+    (one : Exact p (Spelled Any P first) Between) (other : Exact q (Spelled Any Q second) After) (space : (rest : List ℕ) → Between (codes " " ++ rest)) where
+  pub spelled_pair : Exact (in_turn p (λ a. behind (codes " ") (in_turn q (λ b. give (a, b))))) (Spelled Any (Both P Q) (spaced first second)) After
+  spelled_pair =
+      spelled_field (λ (m : A × B). m.0) _ _ Any P (λ (m : A × B). Q m.1) first (λ (m : A × B). codes " " ++ second m.1) Between After one
+      (λ a _. spelled_behind (codes " ") _ _ _ _ After
+      (spelled_last (λ (m : A × B). m.1) (λ b. (a, b)) _ (λ (m : A × B). Unit {0} × (m.0 ≡ a)) Q second After other (λ _. (tt, refl)) (λ _. refl) (λ m known. rw (← known.1) refl)))
+      (λ m rest _ _. space (second m.1 ++ rest))

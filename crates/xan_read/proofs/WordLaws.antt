@@ -5,7 +5,7 @@ use Rattle.std.proofs.lemmas.List.{drop_at, take-append-drop, length-append, len
 use Rattle.xan_read.specs.Reader.{Read, Reader, Alike, Faulty, Exact}
 use Rattle.xan_read.specs.Words.{Table, IsWord, begins_with, apart, apart_from_all, prefix_free, or_else, word_from, word}
 use Rattle.xan_read.specs.Combinators.{literal}
-use Rattle.xan_read.proofs.ReaderLaws.{done, ok_parts, err_is}
+use Rattle.xan_read.proofs.AlikeLaws.{done, ok_parts, err_is}
 
 abbrev broken : ℕ → Result (List ℕ) ℕ
 broken n = Err n

@@ -1,28 +1,39 @@
--- Readers made of readers, and the languages that they read.
+-- Readers made of readers, and the languages that they read. The symbols are of any kind, but where a byte or a literal
+-- is named.
 use Rattle.std.specs.Prelude.{◌≡◌, ◌⊎◌, ℕ, suc, List, [], ◌∷◌, ◌++◌, length, Option, Some, None, Result, Ok, Err, ◌==◌, if◌then◌else◌, Bool, false}
-use Rattle.xan_read.specs.Reader.{Read, Reader, ◌>>=◌}
+use Rattle.xan_read.specs.Reader.{ReadOf, ReaderOf, Read, Reader, ◌>>=◌}
 
--- ---- a value without bytes
+-- ---- a value without symbols
 
-abbrev pub give : {A : Type 0} → A → Reader A
-give x bytes = Ok (x, bytes)
+abbrev pub give : {S A : Type 0} → A → ReaderOf S A
+give x rest = Ok (x, rest)
 
-pub record IsGiven {A : Type 0} (given x : A) (text : List ℕ) : Type 0 where
+pub record IsGiven {S A : Type 0} (given x : A) (text : List S) : Type 0 where
   pub value : x ≡ given
-  pub no_bytes : text ≡ []
+  pub nothing : text ≡ []
 
 -- ---- two in turn; what the second is may depend on the first's value
 
-abbrev pub in_turn : {A B : Type 0} → Reader A → (A → Reader B) → Reader B
-in_turn p q bytes = p bytes >>= λ x. q x.0 x.1
+abbrev pub in_turn : {S A B : Type 0} → ReaderOf S A → (A → ReaderOf S B) → ReaderOf S B
+in_turn p q symbols = p symbols >>= λ x. q x.0 x.1
 
-pub record InTurn {A B : Type 0} (First : A → List ℕ → Type 0) (Second : A → B → List ℕ → Type 0) (y : B) (text : List ℕ) : Type 0 where
+pub record InTurn {S A B : Type 0} (First : A → List S → Type 0) (Second : A → B → List S → Type 0) (y : B) (text : List S) : Type 0 where
   pub value : A
-  pub front : List ℕ
-  pub back : List ℕ
+  pub front : List S
+  pub back : List S
   pub first : First value front
   pub second : Second value y back
   pub parts : text ≡ front ++ back
+
+-- ---- a value that is made of what is read
+
+abbrev pub made : {S A B : Type 0} → (A → B) → ReaderOf S A → ReaderOf S B
+made make p = in_turn p (λ x. give (make x))
+
+pub record IsMade {S A B : Type 0} (make : A → B) (Is : A → List S → Type 0) (y : B) (text : List S) : Type 0 where
+  pub value : A
+  pub is : Is value text
+  pub made : y ≡ make value
 
 -- ---- a literal in front
 
@@ -57,15 +68,15 @@ where_comes c p q bytes = decided (after c bytes) p (q bytes)
 abbrev pub WhereComes : {A : Type 0} → ℕ → (A → List ℕ → Type 0) → (A → List ℕ → Type 0) → A → List ℕ → Type 0
 WhereComes c First Second x text = IsBehind (c ∷ []) First x text ⊎ Second x text
 
--- ---- a choice by the next byte, which the reader that is chosen reads again
+-- ---- a choice by the next symbol, which the reader that is chosen reads again
 
--- there is a next byte, and it passes the test
-abbrev pub next_passes : (ℕ → Bool) → List ℕ → Bool
+-- there is a next symbol, and it passes the test
+abbrev pub next_passes : {S : Type 0} → (S → Bool) → List S → Bool
 next_passes test [] = false
-next_passes test (b ∷ bytes) = test b
+next_passes test (b ∷ rest) = test b
 
-abbrev pub by_next : {A : Type 0} → (ℕ → Bool) → Reader A → Reader A → Reader A
-by_next test p q bytes = if next_passes test bytes then p bytes else q bytes
+abbrev pub by_next : {S A : Type 0} → (S → Bool) → ReaderOf S A → ReaderOf S A → ReaderOf S A
+by_next test p q symbols = if next_passes test symbols then p symbols else q symbols
 
-abbrev pub Either : {A : Type 0} → (A → List ℕ → Type 0) → (A → List ℕ → Type 0) → A → List ℕ → Type 0
+abbrev pub Either : {S A : Type 0} → (A → List S → Type 0) → (A → List S → Type 0) → A → List S → Type 0
 Either First Second x text = First x text ⊎ Second x text

@@ -1,6 +1,8 @@
 pub mod Code
 pub mod Reader
 pub mod Combinators
+pub mod Symbols
+pub mod Rooms
 pub mod Lists
 pub mod Numbers
 pub mod Integers

@@ -1,5 +1,5 @@
 -- Languages in which a value has one spelling: of which values, and how they are spelled.
-use Rattle.std.specs.Prelude.{◌≡◌, ℕ, ◌≤◌, List}
+use Rattle.std.specs.Prelude.{◌≡◌, ℕ, ◌≤◌, List, ◌++◌, codes}
 
 -- any value
 abbrev pub Any : {B : Type 0} → B → Type 0
@@ -15,3 +15,11 @@ pub record Spelled {B : Type 0} (Known Fits : B → Type 0) (spelling : B → Li
 -- from low to high
 abbrev pub IsBetween : ℕ → ℕ → ℕ → Type 0
 IsBetween low high n = (low ≤ n) × (n ≤ high)
+
+-- ---- two values with a space between
+
+abbrev pub Both : {A B : Type 0} → (A → Type 0) → (B → Type 0) → A × B → Type 0
+Both P Q m = P m.0 × Q m.1
+
+abbrev pub spaced : {A B : Type 0} → (A → List ℕ) → (B → List ℕ) → A × B → List ℕ
+spaced first second m = first m.0 ++ (codes " " ++ second m.1)

@@ -53,9 +53,9 @@ pub fn exact_as<V, P: Language<V>, Q: Language<V>>()
         → Exact P.reads Q.spells Q.follows }
 {}
 
-/// A value without bytes.
+/// A value without symbols.
 pub fn exact_give<V>()
-    ensures { (x : V) → Exact (give x) (IsGiven x) (λ _. Unit {0}) }
+    ensures { (x : V) → Exact {S = ℕ} (give x) (IsGiven x) (λ _. Unit {0}) }
 {}
 
 /// Two in turn: what is read second may depend on the first value, and what may follow the first is what the second and

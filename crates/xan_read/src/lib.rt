@@ -6,6 +6,7 @@
 //! of `specs/` give, in time linear in the bytes. It stands on `itoa`.
 #![tactic(auto)]
 
+pub mod family_laws;
 mod fault;
 mod integers;
 pub mod laws;
