@@ -8,7 +8,6 @@ ghost use Rattle.state_types.specs.Types.{index_of};
 
 use crate::error::StateError;
 use crate::pairs::Pair;
-use crate::values::are_same;
 use std::alloc::Global;
 use xan_lin::Form;
 
@@ -17,7 +16,7 @@ use xan_lin::Form;
 fn push_differences(made: &mut Vec<Form>, wanted: &Form, present: &Form) -> Result<(), StateError>
     ensures { Gives (λ _. made.new.items) result (spec.differences wanted.now present.now made.old.items) }
 {
-    if are_same(wanted, present) {
+    if wanted.is_same(present) {
         return Ok(());
     }
     let more = wanted.sub(present)?;

@@ -46,8 +46,8 @@ impl Ty {
         }
     }
 
-    // The value of an int, or the length of an array.
-    pub(crate) fn index(&self) -> Option<&Form>
+    /// The value of an int, or the length of an array.
+    pub fn index(&self) -> Option<&Form>
         ensures { option_map (λ form. form.now) result ≡ spec.index_of self.now }
     {
         match self {
@@ -56,8 +56,8 @@ impl Ty {
         }
     }
 
-    // Whether the types differ in their indices at most.
-    pub(crate) fn is_like(&self, other: &Ty) -> bool
+    /// Whether the types differ in their indices at most.
+    pub fn is_like(&self, other: &Ty) -> bool
         ensures { result ≡ spec.same_kind self.now other.now }
     {
         match (self, other) {

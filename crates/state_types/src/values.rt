@@ -1,7 +1,6 @@
 //! The values of quantified variables.
 
 ghost use Rattle.std.specs.Prelude.{◌≡◌, ◌-◌, IfOk};
-ghost use Rattle.index_sorts.specs.Known.{same_form};
 ghost use Rattle.xan_lin.specs.Subst.{VariablesRise, zero_form};
 ghost use Rattle.state_types.specs.Matching as spec;
 ghost use Rattle.state_types.specs.Types.{index_of};
@@ -10,13 +9,6 @@ use crate::pairs::Pair;
 use crate::types::Ty;
 use std::alloc::Global;
 use xan_lin::{Form, Memory};
-
-/// Whether the forms are equal.
-pub(crate) fn are_same(left: &Form, right: &Form) -> bool
-    ensures { result ≡ same_form left.now right.now }
-{
-    left.constant_part() == right.constant_part() && left.terms() == right.terms()
-}
 
 // The form 0.
 #[tactic(auto, unfolding(xan_lin::specs::Linear::sized, xan_lin::specs::Terms::sum_terms))]
@@ -34,7 +26,7 @@ fn is_alone(ty: &Ty, var: u32) -> bool
     ensures { result ≡ spec.is_alone var (index_of ty.now) }
 {
     match ty.index() {
-        Some(index) => are_same(index, &Form::variable(var)),
+        Some(index) => index.is_same(&Form::variable(var)),
         None => false,
     }
 }

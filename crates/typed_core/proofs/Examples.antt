@@ -3,7 +3,7 @@ use Rattle.std.proofs.Common.{◌≡◌, ℕ, ℤ, pos, negsuc, List, [], ◌∷
 use Rattle.xan_lin.specs.declared.term.Term.{Term}
 use Rattle.typed_core.specs.Goals.{elaborated, functions, function, body_start, Elaboration}
 use Rattle.typed_core.specs.Headers.{few_declarations, few_parts, few_parameters, closed_type, closed_types, signature, signatures}
-use Rattle.typed_core.specs.Forms.{type_of, forms_from, types_from, excess_of, renamed, renamed_type, variables_from}
+use Rattle.typed_core.specs.Forms.{type_of, forms_from, types_from, renamed, renamed_type, variables_from}
 use Rattle.typed_core.specs.Places.{named_by, named_by_operands, named_by_links, test_named, tests_named, statement_named, statements_named, places_of}
 use Rattle.typed_core.specs.Statements.{statement, block, assigned, split, stored, store, done, printed, matched_result, returning, all_given, meeting, after_branches}
 use Rattle.typed_core.specs.Operands.{operand, operands, chained, product, divisor, quotient, remainder, arithmetic, bounds, indexed, measured, allocated, constructed, returned, called, negated}
@@ -14,7 +14,7 @@ use Rattle.index_sorts.specs.Known.{knows, with_row}
 use Rattle.state_types.specs.Unpacking.{with_rows, unpacked}
 use Rattle.state_types.specs.Types.{subst_ty}
 use Rattle.state_types.specs.Matching.{matched, found_with, pairs_of, pair_of, values_for, value_for, demanded, type_rows, index_rows, differences, own_rows}
-use Rattle.xan_lin.specs.Linear.{Linear, variable_form, sized}
+use Rattle.xan_lin.specs.Linear.{Linear, variable_form, sized, excess_of}
 use Rattle.xan_lin.specs.Subst.{replacement, replaced_terms, replaced_constant, zero_form}
 use Rattle.xan_lin.specs.Terms.{sum_terms, plus_term, scaled_terms}
 use Rattle.state_types.specs.declared.types.Ty.{Ty}

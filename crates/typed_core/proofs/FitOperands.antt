@@ -2,7 +2,7 @@
 use Rattle.std.proofs.Common.{◌≡◌, ℕ, ℤ, pos, List, [], ◌∷◌, ◌++◌, map, Option, Some, None, Ok, refl, sym, subst, ◌∙◌, append_assoc}
 use Rattle.std.specs.Prelude.{slice_get}
 use Rattle.std.proofs.lemmas.List.{append-nil}
-use Rattle.xan_lin.specs.Linear.{Linear, sized, variable_form, sum_of, difference_of, product_of}
+use Rattle.xan_lin.specs.Linear.{Linear, sized, variable_form, sum_of, difference_of, product_of, excess_of}
 use Rattle.xan_lin.specs.Subst.{subst_of, zero_form}
 use Rattle.state_types.specs.PlaceTypes.{type_at}
 use Rattle.state_types.specs.Types.{subst_ty}
@@ -16,7 +16,7 @@ use Rattle.xanadu_tree.specs.declared.types.Kind.TheVariants as kind
 use Rattle.xanadu_tree.specs.declared.types.Packing.{Packing}
 use Rattle.xanadu_tree.specs.KindRules.{kind_of, tuple_type, cell_kind, Header, Setting, HasKind, AreNumbers, HaveKinds}
 use Rattle.xanadu_tree.specs.Plain as core
-use Rattle.typed_core.specs.Forms.{constant_form, excess_of, number_of, variables_from}
+use Rattle.typed_core.specs.Forms.{constant_form, number_of, variables_from}
 use Rattle.typed_core.specs.Limits.{Walk, needed}
 use Rattle.typed_core.specs.Operands.{product, quotient_rows, divisor, quotient, remainder, arithmetic, bounds, indexed, measured, allocated, constructed, returned, called, of_number, negated, operand, operands, chained}
 use Rattle.typed_core.specs.States.{Site, State, with_fresh, assuming, number, demanding, there, as_number, as_array, tuple_at, cell_at, opened, first_part, matching}

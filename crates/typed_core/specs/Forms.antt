@@ -1,8 +1,7 @@
 -- Forms and types of a core, whose numbers are of any size, as those within the bounds.
-use Rattle.std.specs.Prelude.{ℕ, zero, suc, ℤ, pos, ◌-ℤ◌, List, [], ◌∷◌, ◌++◌, map, Option, Some, None, Result, Ok}
+use Rattle.std.specs.Prelude.{ℕ, zero, suc, ℤ, List, [], ◌∷◌, ◌++◌, map, Option, Some, None, Result, Ok}
 use Rattle.xan_lin.specs.Linear.{Linear, sized, variable_form}
 use Rattle.xan_lin.specs.Subst.{subst_of}
-use Rattle.xan_lin.specs.Terms.{sum_terms, negated_terms}
 use Rattle.xan_lin.specs.declared.term.Term.{Term}
 use Rattle.xan_lin.specs.declared.term.TooLarge.{TooLarge}
 use Rattle.state_types.specs.Answers.{◌>>=◌}
@@ -66,10 +65,6 @@ variables_from number first (suc count) = (number, variable_form first) ∷ vari
 
 abbrev pub constant_form : ℤ → Linear
 constant_form n = record { terms = []; constant = n }
-
--- e - f - 1, which is at least 0 exactly where f < e
-unfoldable pub excess_of : Linear → Linear → Result Linear TooLarge
-excess_of e f = sized (sum_terms e.terms (negated_terms f.terms)) ((e.constant -ℤ f.constant) -ℤ pos 1)
 
 -- the number that a form is, where it has no variable
 abbrev pub number_of : Linear → Option ℤ

@@ -1,6 +1,6 @@
 -- Expressions: the type of each, and what it demands. Operands come first, from left to right, and then the construct's own demand.
 use Rattle.std.specs.Prelude.{ℕ, zero, suc, ℤ, pos, negsuc, List, [], ◌∷◌, ◌++◌, map, slice_get, Option, Some, None, Result, Ok}
-use Rattle.xan_lin.specs.Linear.{Linear, sized, variable_form, sum_of, difference_of, product_of}
+use Rattle.xan_lin.specs.Linear.{Linear, sized, variable_form, sum_of, difference_of, product_of, excess_of}
 use Rattle.xan_lin.specs.Subst.{subst_of, zero_form}
 use Rattle.xan_lin.specs.declared.term.TooLarge.{TooLarge}
 use Rattle.state_types.specs.Answers.{◌>>=◌}
@@ -12,7 +12,7 @@ use Rattle.state_types.specs.declared.types.Ty.TheVariants as ty
 use Rattle.xanadu_tree.specs.declared.expr.Op.{Op}
 use Rattle.xanadu_tree.specs.declared.expr.Op.TheVariants as op
 use Rattle.xanadu_tree.specs.Plain as core
-use Rattle.typed_core.specs.Forms.{constant_form, excess_of, number_of, variables_from}
+use Rattle.typed_core.specs.Forms.{constant_form, number_of, variables_from}
 use Rattle.typed_core.specs.Limits.{Walk, needed}
 use Rattle.typed_core.specs.States.{Site, State, with_fresh, assuming, number, demanding, there, as_number, as_array, tuple_at, cell_at, opened, first_part, matching}
 

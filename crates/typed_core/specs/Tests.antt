@@ -1,12 +1,11 @@
 -- Tests: the rows that hold where a test is true, and those where it is false.
 use Rattle.std.specs.Prelude.{List, [], ◌∷◌, Result, Ok}
-use Rattle.xan_lin.specs.Linear.{Linear, difference_of}
+use Rattle.xan_lin.specs.Linear.{Linear, difference_of, excess_of}
 use Rattle.xan_lin.specs.declared.term.TooLarge.{TooLarge}
 use Rattle.state_types.specs.Answers.{◌>>=◌}
 use Rattle.xanadu_tree.specs.declared.expr.Rel.{Rel}
 use Rattle.xanadu_tree.specs.declared.expr.Rel.TheVariants as rel
 use Rattle.xanadu_tree.specs.Plain as core
-use Rattle.typed_core.specs.Forms.{excess_of}
 use Rattle.typed_core.specs.Limits.{Walk}
 use Rattle.typed_core.specs.Operands.{operand}
 use Rattle.typed_core.specs.States.{Site, State, all_assumed, resuming, noting_state, as_number, as_truth}
