@@ -5,8 +5,8 @@ set -e
 cd "$(dirname "$0")/.."
 mkdir -p bin
 (cd crates/lines_bench && rt run -- combs 1000 1 >/dev/null)
-(cd crates/sources_bench && rt run -- trees data/sum.xan 1 >/dev/null)
-cp crates/lines_bench/out/lines_bench crates/sources_bench/out/sources_bench bin/
+(cd crates/bench_sources && rt run -- trees data/sum.xan 1 >/dev/null)
+cp crates/lines_bench/out/lines_bench crates/bench_sources/out/bench_sources bin/
 cc -O2 -o bin/bench_lines tools/bench_lines.c
 
 # nanoseconds that a command takes
@@ -60,7 +60,7 @@ long_statements() {
 
 # megabytes a second, in tenths, of a source that is read in the way of this kind
 tenths_of_megabytes() {
-    echo $(($(wc -c <"$2") * READINGS * 10000 / $(took bin/sources_bench "$1" "$2" "$READINGS")))
+    echo $(($(wc -c <"$2") * READINGS * 10000 / $(took bin/bench_sources "$1" "$2" "$READINGS")))
 }
 
 for source in functions_of_sums long_statements; do
