@@ -58,14 +58,11 @@ impl<'a> Tokens<'a> {
     pub fn next_symbol(&self) -> Option<(Symbol, u32)>
         ensures { result ≡ table.next_symbol self.now }
     {
-        match self.rest {
-            [
-                Token {
-                    kind: TokenKind::Symbol(symbol),
-                    at,
-                },
-                ..
-            ] => Some((*symbol, *at)),
+        let [token, ..] = self.rest else {
+            return None;
+        };
+        match &token.kind {
+            TokenKind::Symbol(symbol) => Some((*symbol, token.at)),
             _ => None,
         }
     }
@@ -84,16 +81,13 @@ impl<'a> Tokens<'a> {
     pub fn eat_symbol(&mut self, wanted: Symbol) -> Option<u32>
         ensures { Eats (λ at. at) result self.old self.new (spec.eat (table.mark wanted) self.old) }
     {
-        match self.rest {
-            [
-                Token {
-                    kind: TokenKind::Symbol(symbol),
-                    at,
-                },
-                rest @ ..,
-            ] if *symbol == wanted => {
+        let [token, rest @ ..] = self.rest else {
+            return None;
+        };
+        match &token.kind {
+            TokenKind::Symbol(symbol) if *symbol == wanted => {
                 self.rest = rest;
-                Some(*at)
+                Some(token.at)
             }
             _ => None,
         }
@@ -104,16 +98,13 @@ impl<'a> Tokens<'a> {
     pub fn eat_keyword(&mut self, wanted: Keyword) -> Option<u32>
         ensures { Eats (λ at. at) result self.old self.new (spec.eat (table.keyword wanted) self.old) }
     {
-        match self.rest {
-            [
-                Token {
-                    kind: TokenKind::Keyword(keyword),
-                    at,
-                },
-                rest @ ..,
-            ] if *keyword == wanted => {
+        let [token, rest @ ..] = self.rest else {
+            return None;
+        };
+        match &token.kind {
+            TokenKind::Keyword(keyword) if *keyword == wanted => {
                 self.rest = rest;
-                Some(*at)
+                Some(token.at)
             }
             _ => None,
         }
@@ -124,16 +115,13 @@ impl<'a> Tokens<'a> {
     pub fn eat_number(&mut self) -> Option<(i64, u32)>
         ensures { Eats (λ x. x) result self.old self.new (spec.eat table.number self.old) }
     {
-        match self.rest {
-            [
-                Token {
-                    kind: TokenKind::Num(number),
-                    at,
-                },
-                rest @ ..,
-            ] => {
+        let [token, rest @ ..] = self.rest else {
+            return None;
+        };
+        match &token.kind {
+            TokenKind::Num(number) => {
                 self.rest = rest;
-                Some((*number, *at))
+                Some((*number, token.at))
             }
             _ => None,
         }
@@ -144,17 +132,14 @@ impl<'a> Tokens<'a> {
     pub fn eat_lower(&mut self) -> Result<Option<Identifier>, Memory>
         ensures { EatsNamed result self.old self.new (spec.eat table.lower self.old) }
     {
-        match self.rest {
-            [
-                Token {
-                    kind: TokenKind::Lower(name),
-                    at,
-                },
-                rest @ ..,
-            ] => {
+        let [token, rest @ ..] = self.rest else {
+            return Ok(None);
+        };
+        match &token.kind {
+            TokenKind::Lower(name) => {
                 let name = name.copy()?;
                 self.rest = rest;
-                Ok(Some(Identifier { name, at: *at }))
+                Ok(Some(Identifier { name, at: token.at }))
             }
             _ => Ok(None),
         }
@@ -165,17 +150,14 @@ impl<'a> Tokens<'a> {
     pub fn eat_upper(&mut self) -> Result<Option<Identifier>, Memory>
         ensures { EatsNamed result self.old self.new (spec.eat table.upper self.old) }
     {
-        match self.rest {
-            [
-                Token {
-                    kind: TokenKind::Upper(name),
-                    at,
-                },
-                rest @ ..,
-            ] => {
+        let [token, rest @ ..] = self.rest else {
+            return Ok(None);
+        };
+        match &token.kind {
+            TokenKind::Upper(name) => {
                 let name = name.copy()?;
                 self.rest = rest;
-                Ok(Some(Identifier { name, at: *at }))
+                Ok(Some(Identifier { name, at: token.at }))
             }
             _ => Ok(None),
         }
