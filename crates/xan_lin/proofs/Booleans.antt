@@ -1,24 +1,6 @@
--- Tests of numbers, and tests joined by "and".
-use Rattle.std.proofs.Common.{◌≡◌, ◌≢◌, ℕ, ◌<◌, ◌≤◌, Bool, true, false, ◌&&◌, nat_lt, ◌==◌, refl, arith}
-use Rattle.std.proofs.lemmas.Bool.Decides.{nat_tests}
-
-pub less : (m n : ℕ) → m < n → nat_lt m n ≡ true
-less m n h = grind (arith, nat_tests)
-
-pub not_less : (m n : ℕ) → n ≤ m → nat_lt m n ≡ false
-not_less m n h = grind (arith, nat_tests)
-
-pub is_less : (m n : ℕ) → nat_lt m n ≡ true → m < n
-is_less m n h = grind (arith, nat_tests)
-
-pub is_not_less : (m n : ℕ) → nat_lt m n ≡ false → n ≤ m
-is_not_less m n h = grind (arith, nat_tests)
-
-pub equal : (m n : ℕ) → m ≡ n → (m == n) ≡ true
-equal m n h = grind (arith, nat_tests)
-
-pub unequal : (m n : ℕ) → m ≢ n → (m == n) ≡ false
-unequal m n h = grind (arith, nat_tests)
+-- Tests joined by "and"; and tests of numbers, of the crate below.
+use Rattle.std.proofs.Common.{◌≡◌, Bool, true, false, ◌&&◌, refl}
+pub use Rattle.xan_seq.proofs.NumberTests.{less, not_less, is_less, is_not_less, equal, unequal}
 
 pub both : (a b : Bool) → (a && b) ≡ true → (a ≡ true) × (b ≡ true)
 both true b e = (refl, e)

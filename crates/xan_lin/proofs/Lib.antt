@@ -8,7 +8,6 @@ pub mod Scaling
 pub mod Gathering
 pub mod Collecting
 pub mod Evaluating
-pub mod Looking
 pub mod Replacing
 pub mod Products
 pub mod Substituting

@@ -3,6 +3,7 @@ use Rattle.std.proofs.Common.{◌≡◌, ◌≢◌, ℕ, zero, suc, ◌^◌, ◌
 use Rattle.xan_lin.specs.Terms.{IsRising, with_multiple, plus_term, sum_terms, negated_terms}
 use Rattle.xan_lin.specs.Linear.{is_within, all_within}
 use Rattle.xan_lin.specs.declared.term.Term.{Term}
+pub use Rattle.xan_seq.proofs.NumberTests.{Order, Lt, Gt, Eq, order}
 use Rattle.xan_lin.proofs.Booleans.{less, not_less}
 
 -- ---- terms that rise
@@ -79,17 +80,6 @@ pub plus-before : (t : Term) (us : List Term) → t.coef ≢ pos 0 → IsRising 
 unfolding plus_term
 plus-before t [] h r = with_multiple-nonzero t.var t.coef [] h
 plus-before t (u ∷ us) h r = plus-front t u us (omega (arith, r.0)) ∙ with_multiple-nonzero t.var t.coef (u ∷ us) h
-
-pub data Order (m n : ℕ) : Type 0 where
-  Lt : m < n → Order m n
-  Gt : n < m → Order m n
-  Eq : m ≡ n → Order m n
-
-pub order : (m n : ℕ) → Order m n
-order zero zero = Eq refl
-order zero (suc n) = Lt (omega arith)
-order (suc m) zero = Gt (omega arith)
-order (suc m) (suc n) = elim (order m n) [ Lt h ↦ Lt (omega arith) | Gt h ↦ Gt (omega arith) | Eq h ↦ Eq (ap suc h) ]
 
 pub IsRising-plus : (low : ℕ) (t : Term) (us : List Term) → low ≤ t.var → IsRising low us → IsRising low (plus_term t us)
 unfolding plus_term

@@ -1,6 +1,7 @@
 -- What a form becomes when all its variables are replaced at once.
-use Rattle.std.specs.Prelude.{◌≡◌, ℕ, zero, suc, ◌≤◌, ℤ, pos, ◌+ℤ◌, ◌*ℤ◌, List, [], ◌∷◌, ◌++◌, map, nat_lt, ◌==◌, Option, Some, None, Result, if◌then◌else◌}
+use Rattle.std.specs.Prelude.{◌≡◌, ℕ, zero, suc, ℤ, pos, ◌+ℤ◌, ◌*ℤ◌, List, [], ◌∷◌, ◌++◌, map, nat_lt, Option, Some, None, Result, if◌then◌else◌}
 use Rattle.std.specs.List.{All}
+use Rattle.xan_seq.specs.Rising.{KeysRise, value_under}
 use Rattle.xan_lin.specs.Linear.{Linear, variable_form, form_of}
 use Rattle.xan_lin.specs.Value.{value_at, value_of}
 use Rattle.xan_lin.specs.declared.term.Term.{Term}
@@ -8,13 +9,11 @@ use Rattle.xan_lin.specs.declared.term.TooLarge.{TooLarge}
 
 -- the listed variables rise from `low` on
 abbrev pub VariablesRise : ℕ → List (ℕ × Linear) → Type 0
-VariablesRise low [] = Unit {0}
-VariablesRise low (v ∷ vs) = (low ≤ v.0) × VariablesRise (suc v.0) vs
+VariablesRise low values = KeysRise low values
 
 -- the form that is listed for a variable
 abbrev pub listed : ℕ → List (ℕ × Linear) → Option Linear
-listed var [] = None
-listed var (v ∷ vs) = if v.0 == var then Some v.1 else listed var vs
+listed var values = value_under var values
 
 abbrev pub zero_form : Linear
 zero_form = record { terms = []; constant = pos 0 }

@@ -1,6 +1,6 @@
 use Rattle.std.proofs.Common.{rules}
 use Rattle.std.proofs.lemmas.List.Sorted.{IsPartitionPoint-from_clause}
-use Rattle.xan_lin.proofs.Looking.{is_before, rises_partitioned}
+use Rattle.xan_seq.proofs.RisingKeys.{is_before, rises_partitioned}
 use Rattle.xan_lin.proofs.lookup.count_before.Goals as goal
 
 pub returns : goal.returns
