@@ -3,7 +3,9 @@ pub mod Different
 pub mod Growing
 pub mod Dense
 pub mod Spreading
+pub mod Filling
 pub mod Combining
+pub mod Cutting
 pub mod Opposites
 pub mod Lasts
 pub mod Passing

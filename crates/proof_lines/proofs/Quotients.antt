@@ -6,7 +6,7 @@ use Rattle.xan_lin.specs.Terms.{IsRising, scaled_terms, coefficient_of}
 use Rattle.xan_lin.specs.Linear.{Linear, is_within, all_within, are_within}
 use Rattle.xan_lin.specs.declared.term.Term.{Term}
 use Rattle.xan_lin.proofs.Ring.{add_none, zero-mul}
-use Rattle.proof_lines.specs.Rows.{combination_of, floor_over, is_multiple, divided_term, cut_of}
+use Rattle.proof_lines.specs.Rows.{combination_of, floor_over, remainder, is_multiple, divided_term, cut_of}
 use Rattle.proof_lines.specs.Check.{is_positive}
 use Rattle.proof_lines.specs.Cells.{cells_of, combined_cells}
 use Rattle.proof_lines.proofs.Different.{same_number}
@@ -88,7 +88,7 @@ cells-cut (v ∷ columns) free x by h r =
     ap (λ n. n ∷ map (λ cell. floor_over cell by) (cells_of columns free x)) (sym (coefficient-divided 0 v x.terms by h r))
     ∙ ap (λ cells. coefficient_of v (cut_of x by).terms ∷ cells) (cells-cut columns free x by h r)
 
-no_sum : (a b : ℤ) → (pos 0 *ℤ a) +ℤ (pos 0 *ℤ b) ≡ pos 0
+pub no_sum : (a b : ℤ) → (pos 0 *ℤ a) +ℤ (pos 0 *ℤ b) ≡ pos 0
 no_sum a b = ap (λ n. n +ℤ (pos 0 *ℤ b)) (zero-mul a) ∙ ap (λ n. pos 0 +ℤ n) (zero-mul b)
 
 pub cells-combination : (columns : List ℕ) (free : ℕ) (a b : ℤ) (x y : Linear)
@@ -102,3 +102,31 @@ cells-combination (v ∷ columns) free a b x y =
     (ap (λ n. n +ℤ (coefficient_of v y.terms *ℤ b)) (sym (coefficient-scaled v x.terms a))
     ∙ ap (λ n. coefficient_of v (scaled_terms x.terms a) +ℤ n) (sym (coefficient-scaled v y.terms b)) ∙ sym (coefficient-sum v (scaled_terms x.terms a) (scaled_terms y.terms b)))
     ∙ ap (λ cells. coefficient_of v (combination_of a x b y).terms ∷ cells) (cells-combination columns free a b x y)
+
+-- ---- quotients without a rest
+
+-- a number over a divisor: what it is, and what is left
+pub floor-rest : (n : ℤ) (d : ℕ) → 0 < d → n ≡ (floor_over n (pos d) *ℤ pos d) +ℤ remainder n (pos d)
+floor-rest (pos a) d h = omega (arith, ints)
+floor-rest (negsuc a) d h = omega (arith, ints)
+
+no_more : (n m r : ℤ) → n ≡ m +ℤ r → m ≡ n → r ≡ pos 0
+no_more n m r e f = omega (arith, ints)
+
+all_of_it : (n m r : ℤ) → n ≡ m +ℤ r → r ≡ pos 0 → m ≡ n
+all_of_it n m r e f = omega (arith, ints)
+
+pub whole_quotient : (n by : ℤ) → is_positive by ≡ true → floor_over n by *ℤ by ≡ n → is_multiple by n ≡ true
+whole_quotient n (pos b) h e =
+    (Decides-int_eq (remainder n (pos b)) (pos 0)).1
+    (no_more n (floor_over n (pos b) *ℤ pos b) (remainder n (pos b)) (floor-rest n b (above b h)) e)
+whole_quotient n (negsuc b) h e = cc
+
+pub part_quotient : (n by : ℤ) → is_positive by ≡ true → (floor_over n by *ℤ by ≡ n → ⊥) → is_multiple by n ≡ false
+part_quotient n (pos b) h e = go (is_multiple (pos b) n) refl
+  where
+    go : (found : Bool) → is_multiple (pos b) n ≡ found → found ≡ false
+    go true m = absurd (e (all_of_it n (floor_over n (pos b) *ℤ pos b) (remainder n (pos b)) (floor-rest n b (above b h))
+        ((Decides-int_eq (remainder n (pos b)) (pos 0)).0 m)))
+    go false m = refl
+part_quotient n (negsuc b) h e = cc

@@ -17,6 +17,7 @@ use Rattle.proof_lines.specs.declared.line.Line.TheVariants.{Hyp, Goal, Comb, Cu
 use Rattle.proof_lines.specs.Rows.{opposite_of, combination_of, floor_over, remainder, is_multiple, divides, divided_term, cut_of, IsRefutation}
 use Rattle.proof_lines.specs.Lines.{LineGives, LinesGive, LinesProve}
 use Rattle.proof_lines.proofs.Proper.{both}
+use Rattle.proof_lines.proofs.Quotients.{floor-rest}
 
 -- ---- values
 
@@ -33,11 +34,6 @@ value-combination values a b x y =
     ∙ add_pairs (value_of_terms values x.terms *ℤ a) (value_of_terms values y.terms *ℤ b) (x.constant *ℤ a) (y.constant *ℤ b)
     ∙ ap (λ n. n +ℤ ((value_of_terms values y.terms *ℤ b) +ℤ (y.constant *ℤ b))) (sym (add-mul (value_of_terms values x.terms) x.constant a))
     ∙ ap (λ n. (value_of values x *ℤ a) +ℤ n) (sym (add-mul (value_of_terms values y.terms) y.constant b))
-
--- a number over a divisor: what it is, and what is left
-floor-rest : (n : ℤ) (d : ℕ) → 0 < d → n ≡ (floor_over n (pos d) *ℤ pos d) +ℤ remainder n (pos d)
-floor-rest (pos a) d h = omega (arith, ints)
-floor-rest (negsuc a) d h = omega (arith, ints)
 
 rest-small : (n : ℤ) (d : ℕ) → 0 < d → remainder n (pos d) <ℤ pos d
 rest-small (pos a) d h = omega (arith, ints)

@@ -1,5 +1,5 @@
 -- How rows lie in cells: a column for each variable that has come, some columns of 0, and the constant.
-use Rattle.std.specs.Prelude.{◌≡◌, ℕ, zero, suc, ◌-◌, ◌≤◌, ℤ, pos, ◌+ℤ◌, ◌*ℤ◌, Bool, false, true, ◌&&◌, List, [], ◌∷◌, length, map, take, int_lt, Option, Some, None, slice_get, Result, Ok, Err, if◌then◌else◌}
+use Rattle.std.specs.Prelude.{◌≡◌, ℕ, zero, suc, ◌-◌, ◌≤◌, ℤ, pos, ◌+ℤ◌, ◌*ℤ◌, Bool, false, true, ◌&&◌, List, [], ◌∷◌, ◌++◌, length, map, take, drop, replicate, int_lt, Option, Some, None, slice_get, Result, Ok, Err, if◌then◌else◌}
 use Rattle.std.specs.List.{list_all, slice_index_or}
 use Rattle.std.specs.Ordering.{int_eq}
 use Rattle.xan_lin.specs.Terms.{IsRising, coefficient_of}
@@ -27,6 +27,15 @@ abbrev pub dense : List ℕ → Linear → List ℤ
 dense columns row = cells_of columns (64 - length columns) row
 
 -- ---- rows that lie in cells
+
+-- so many columns are in use, and behind them are 0 and the constant
+pub record IsBlankBehind (used : ℕ) (cells : List ℤ) : Type 0 where
+  pub width : length cells ≡ 65
+  pub blank : drop used cells ≡ replicate (64 - used) (pos 0) ++ slice_index_or cells 64 (pos 0) ∷ []
+
+abbrev pub AreBlankBehind : ℕ → List (List ℤ) → Type 0
+AreBlankBehind used [] = Unit {0}
+AreBlankBehind used (cells ∷ rows) = IsBlankBehind used cells × AreBlankBehind used rows
 
 abbrev pub are_among : List ℕ → List Term → Bool
 are_among columns ts = list_all (λ t. is_among t.var columns) ts

@@ -7,10 +7,10 @@ ghost use Rattle.xan_lin.specs.Linear.{is_within};
 ghost use Rattle.proof_lines.specs.Rows.{floor_over, is_multiple};
 ghost use Rattle.proof_lines.specs.Variables.{with_terms};
 ghost use Rattle.proof_lines.specs.Check.{is_positive};
-ghost use Rattle.proof_lines.specs.Cells.{AreDifferent, dense, is_zero, combined_cells, cannot_hold};
+ghost use Rattle.proof_lines.specs.Cells.{AreDifferent, dense, IsBlankBehind, is_zero, combined_cells, cannot_hold};
 
 use crate::columns::{Columns, MOST_COLUMNS};
-use crate::row::{number_combination, number_divides, number_floor};
+use crate::row::{number_combination, number_floor, number_quotient};
 use arrayvec::ArrayVec;
 use xan_lin::Term;
 
@@ -40,47 +40,60 @@ pub(crate) fn spread(columns: &mut Columns, terms: &[Term], constant: &i64) -> O
     Some(ArrayVec::from(cells))
 }
 
-/// The sum of two rows, each times a multiplier of at least 1, where all its numbers are within the bound of forms.
-pub(crate) fn combined(left: &[i64], left_by: &i64, right: &[i64], right_by: &i64) -> Option<Cells>
-    requires left { length left.now ≡ 65 }
-    requires right { length right.now ≡ 65 }
+/// The sum of two rows, each times a multiplier of at least 1, where all its numbers are within the bound of forms. Only the columns in use
+/// and the constant are walked.
+pub(crate) fn combined(
+    used: usize,
+    left: &[i64],
+    left_by: &i64,
+    right: &[i64],
+    right_by: &i64,
+) -> Option<Cells>
+    requires few { used ≤ 64 }
+    requires left { IsBlankBehind used left.now }
+    requires right { IsBlankBehind used right.now }
     requires left_by { IsTrue (is_positive left_by.now) }
     requires right_by { IsTrue (is_positive right_by.now) }
     ensures { MatchOption result (list_all is_within (combined_cells left_by.now left.now right_by.now right.now) ≡ false)
         (λ cells. (cells.items ≡ combined_cells left_by.now left.now right_by.now right.now) × (list_all is_within cells.items ≡ true)) }
 {
-    let mut made = ArrayVec::new();
-    'cells: for place in 0..WIDTH {
+    let mut cells = [0i64; WIDTH];
+    'columns: for place in 0..used {
         let Some(cell) = number_combination(&left[place], left_by, &right[place], right_by) else {
             return None;
         };
-        made.push(cell);
+        cells[place] = cell;
     }
-    Some(made)
+    let Some(constant) = number_combination(
+        &left[MOST_COLUMNS],
+        left_by,
+        &right[MOST_COLUMNS],
+        right_by,
+    ) else {
+        return None;
+    };
+    cells[MOST_COLUMNS] = constant;
+    Some(ArrayVec::from(cells))
 }
 
-/// Whether the divisor divides the coefficients of the row.
-pub(crate) fn divides_coefficients(by: &i64, row: &[i64]) -> bool
+/// The row over a divisor of at least 1, with the floor of its constant, where the divisor divides the coefficients. Only the columns in use
+/// and the constant are walked.
+pub(crate) fn divided(used: usize, row: &[i64], by: &i64) -> Option<Cells>
+    requires few { used ≤ 64 }
     requires positive { IsTrue (is_positive by.now) }
-    requires width { length row.now ≡ 65 }
-    ensures { result ≡ list_all (is_multiple by.now) (take 64 row.now) }
+    requires row { IsBlankBehind used row.now }
+    ensures { MatchOption result (list_all (is_multiple by.now) (take 64 row.now) ≡ false)
+        (λ cells. (cells.items ≡ map (λ cell. floor_over cell by.now) row.now) × (list_all (is_multiple by.now) (take 64 row.now) ≡ true)) }
 {
-    row[..MOST_COLUMNS]
-        .iter()
-        .all(|cell| number_divides(by, cell))
-}
-
-/// The floors of the numbers of the row over the divisor.
-pub(crate) fn divided(row: &[i64], by: &i64) -> Cells
-    requires positive { IsTrue (is_positive by.now) }
-    requires width { length row.now ≡ 65 }
-    ensures { result.items ≡ map (λ cell. floor_over cell by.now) row.now }
-{
-    let mut made = ArrayVec::new();
-    'cells: for cell in row {
-        made.push(number_floor(cell, by));
+    let mut cells = [0i64; WIDTH];
+    'columns: for place in 0..used {
+        let Some(cell) = number_quotient(&row[place], by) else {
+            return None;
+        };
+        cells[place] = cell;
     }
-    made
+    cells[MOST_COLUMNS] = number_floor(&row[MOST_COLUMNS], by);
+    Some(ArrayVec::from(cells))
 }
 
 /// Whether the row has no variable and a negative constant.

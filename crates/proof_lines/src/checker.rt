@@ -5,11 +5,11 @@ ghost use Rattle.proof_lines.specs.declared.bad_line.Why.TheVariants as why;
 ghost use Rattle.proof_lines.specs.Lines.{LinesProve};
 ghost use Rattle.proof_lines.specs.Check.{is_listed, bounded, row_given, checked};
 ghost use Rattle.proof_lines.specs.Rows.{opposite_of};
-ghost use Rattle.proof_lines.specs.Cells.{AreDifferent, Stands, Gives, combination_cells, cut_cells, last_cannot_hold};
+ghost use Rattle.proof_lines.specs.Cells.{AreDifferent, AreBlankBehind, Stands, Gives, combination_cells, cut_cells, last_cannot_hold};
 ghost use Rattle.proof_lines.specs.Code.{cells_in};
 
 use crate::bad_line::{BadLine, Why};
-use crate::cells::{Cells, combined, divided, divides_coefficients, is_impossible, spread};
+use crate::cells::{Cells, combined, divided, is_impossible, spread};
 use crate::columns::Columns;
 use crate::hypotheses::is_listed;
 use crate::line::Line;
@@ -99,6 +99,7 @@ fn opposite_cells(goal: &Form, columns: &mut Columns) -> Result<Cells, Why>
 fn combination_cells(
     pool: &RowPool,
     base: usize,
+    used: usize,
     left_by: &i64,
     left: u32,
     right_by: &i64,
@@ -106,6 +107,8 @@ fn combination_cells(
 ) -> Result<Cells, Why>
     requires width { pool.now.width ≡ 65 }
     requires within { base ≤ length pool.now.rows }
+    requires few { used ≤ 64 }
+    requires blank { AreBlankBehind used (drop base pool.now.rows) }
     ensures { cells_in result ≡ combination_cells (drop base pool.now.rows) left_by.now left right_by.now right }
 {
     let Some(left) = row_at(pool, base, left) else {
@@ -114,19 +117,24 @@ fn combination_cells(
     let Some(right) = row_at(pool, base, right) else {
         return Err(Why::NoSuchRow);
     };
-    if *left_by < 1 || *right_by < 1 {
+    if *left_by < 1 {
         return Err(Why::Multiplier);
     }
-    match combined(left, left_by, right, right_by) {
+    if *right_by < 1 {
+        return Err(Why::Multiplier);
+    }
+    match combined(used, left, left_by, right, right_by) {
         Some(cells) => Ok(cells),
         None => Err(Why::TooLarge),
     }
 }
 
 // The cells of a row over a divisor.
-fn cut_cells(pool: &RowPool, base: usize, row: u32, by: &i64) -> Result<Cells, Why>
+fn cut_cells(pool: &RowPool, base: usize, used: usize, row: u32, by: &i64) -> Result<Cells, Why>
     requires width { pool.now.width ≡ 65 }
     requires within { base ≤ length pool.now.rows }
+    requires few { used ≤ 64 }
+    requires blank { AreBlankBehind used (drop base pool.now.rows) }
     ensures { cells_in result ≡ cut_cells (drop base pool.now.rows) row by.now }
 {
     let Some(row) = row_at(pool, base, row) else {
@@ -135,10 +143,10 @@ fn cut_cells(pool: &RowPool, base: usize, row: u32, by: &i64) -> Result<Cells, W
     if *by < 1 {
         return Err(Why::Multiplier);
     }
-    if !divides_coefficients(by, row) {
-        return Err(Why::NotDivisible);
+    match divided(used, row, by) {
+        Some(cells) => Ok(cells),
+        None => Err(Why::NotDivisible),
     }
-    Ok(divided(row, by))
 }
 
 // Whether there is a last row from `base` on and it cannot hold.
@@ -165,6 +173,7 @@ fn line_cells(
     requires within { base ≤ length pool.now.rows }
     requires few { length columns.old ≤ 64 }
     requires different { AreDifferent columns.old }
+    requires blank { AreBlankBehind (length columns.old) (drop base pool.now.rows) }
     ensures { (rows : List Linear) → Stands columns.old (drop base pool.now.rows) rows
         → Gives columns.old columns.new (cells_in result) (row_given hyps.now goal.now rows columns.old line.now) }
 {
@@ -176,8 +185,16 @@ fn line_cells(
             left,
             right_by,
             right,
-        } => combination_cells(pool, base, left_by, *left, right_by, *right),
-        Line::Cut { row, by } => cut_cells(pool, base, *row, by),
+        } => combination_cells(
+            pool,
+            base,
+            columns.count(),
+            left_by,
+            *left,
+            right_by,
+            *right,
+        ),
+        Line::Cut { row, by } => cut_cells(pool, base, columns.count(), *row, by),
     }
 }
 

@@ -43,6 +43,13 @@ impl Columns {
         }
     }
 
+    /// How many variables have a column.
+    pub(crate) fn count(&self) -> usize
+        ensures { result ≡ length self.now }
+    {
+        self.vars.len()
+    }
+
     /// The column of the variable, which gets a new one where it has none. `None` comes where it has none and all 64 are taken.
     pub(crate) fn column(&mut self, var: u32) -> Option<usize>
         ensures found { MatchOption result (nat_lt 64 (length (with_variable self.old var)) ≡ true) (λ column. slice_get self.new column ≡ Some var) }

@@ -1,5 +1,5 @@
 //! Arithmetic on the numbers of rows.
-ghost use Rattle.std.specs.Prelude.{◌≡◌, ◌-◌, ◌^◌, ◌≤◌, ◌+ℤ◌, ◌*ℤ◌, unsigned_abs, IsTrue, true, false, MatchOption};
+ghost use Rattle.std.specs.Prelude.{◌≡◌, ◌↔◌, ◌-◌, ◌^◌, ◌≤◌, ◌+ℤ◌, ◌*ℤ◌, unsigned_abs, IsTrue, true, false, MatchOption};
 ghost use Rattle.xan_lin.specs.Linear.{is_within};
 ghost use Rattle.proof_lines.specs.Rows.{floor_over, is_multiple};
 ghost use Rattle.proof_lines.specs.Check.{is_positive};
@@ -50,12 +50,26 @@ pub(crate) fn number_combination(
     narrowed(&sum(&left_product, &right_product))
 }
 
-// Whether the divisor divides the number.
-pub(crate) fn number_divides(by: &i64, number: &i64) -> bool
+// Whether the number is the product of a quotient and a divisor.
+fn is_product(quotient: &i64, by: &i64, number: &i64) -> bool
     requires { IsTrue (is_positive by.now) }
-    ensures { result ≡ is_multiple by.now number.now }
+    ensures { IsTrue result ↔ (quotient.now *ℤ by.now ≡ number.now) }
 {
-    number.rem_euclid(*by) == 0
+    product(quotient, by) == i128::from(*number)
+}
+
+// The number over a divisor that divides it.
+pub(crate) fn number_quotient(number: &i64, by: &i64) -> Option<i64>
+    requires { IsTrue (is_positive by.now) }
+    ensures { MatchOption result (is_multiple by.now number.now ≡ false)
+        (λ quotient. (quotient ≡ floor_over number.now by.now) × (is_multiple by.now number.now ≡ true)) }
+{
+    let quotient = number_floor(number, by);
+    if is_product(&quotient, by, number) {
+        Some(quotient)
+    } else {
+        None
+    }
 }
 
 // The floor of the number over the divisor.

@@ -1,6 +1,5 @@
-use Rattle.std.proofs.Common.{◌≡◌, map, take}
-use Rattle.proof_lines.specs.Rows.{floor_over}
+use Rattle.proof_lines.proofs.Cutting.{Cutting}
 use Rattle.proof_lines.proofs.cells.divided.Given as goal
 
-abbrev pub invariant-cells : goal.invariant-cells
-invariant-cells l = l.made.items ≡ map (λ cell. floor_over cell l.by) (take l.cell-index l.row)
+abbrev pub invariant-columns : goal.invariant-columns
+invariant-columns l = Cutting l.cells l.row l.by l.place

@@ -1,9 +1,15 @@
 use Rattle.std.proofs.Common.{sym, ap, ◌∙◌, arith}
 use Rattle.proof_lines.proofs.Walking.{walks_none, rows_behind, cells-long, from_line, walks_more, walks_all}
+use Rattle.proof_lines.proofs.Filling.{blank-cells}
 use Rattle.proof_lines.proofs.checker.walk.Goals as goal
 
 pub lines-init : goal.lines-init
 lines-init c = walks_none _ _ _ _ _ _ c.mark-base.ensures.live c.new-columns.ensures
+
+pub line_cells-requires-clause-blank : goal.line_cells-requires-clause-blank
+line_cells-requires-clause-blank c =
+    let s = rows_behind _ _ _ _ _ _ _ _ c.lines.invariant in
+    blank-cells _ _ _ s.cells_are c.lines.invariant.few
 
 pub put-requires-clause-width : goal.put-requires-clause-width
 put-requires-clause-width c =
