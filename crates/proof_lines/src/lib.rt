@@ -19,11 +19,12 @@ mod row;
 #[cfg(test)]
 mod tests;
 mod text_error;
+mod told;
 mod writing;
 
 pub use crate::bad_line::{BadLine, Why};
 pub use crate::checker::check_lines;
-pub use crate::laws::{checked_is_proved, proved_goals_are_entailed};
+pub use crate::laws::{a_text_spells_one_list, checked_is_proved, proved_goals_are_entailed};
 pub use crate::line::Line;
 pub use crate::line_text::read_lines;
 pub use crate::text_error::LineTextError;

@@ -3,9 +3,10 @@ ghost use Rattle.std.specs.Prelude.{◌≡◌, ◌+◌, ◌<◌, ◌≤◌, ◌�
 ghost use Rattle.std.specs.Fmt.{signed_decimal};
 ghost use Rattle.xan_lin.specs.Text.{form_text};
 ghost use Rattle.arrayvec.specs.ArrayVec.{array_vec_len};
-ghost use Rattle.proof_lines.specs.Spelling.{line_text, more_text, lines_text, spaced_multiple, spaced_cut};
+ghost use Rattle.proof_lines.specs.Spelling.{line_text, more_text, lines_text, spaced_multiple, spaced_cut, IsLinesText};
 
 use crate::line::Line;
+use crate::told::tell_lines;
 use arrayvec::ArrayVec;
 use itoa::Buffer;
 use xan_lin::{Form, Memory};
@@ -148,13 +149,16 @@ fn put_lines(out: &mut Vec<u8>, lines: &[Line]) -> Result<(), Memory>
     put_more(out, rest)
 }
 
-/// Appends the spelling of the lines, which [`read_lines`](crate::read_lines) reads. Where memory runs out nothing is appended.
+/// Appends the spelling of the lines. It spells them, and no others, so that it is what [`read_lines`](crate::read_lines) reads as these
+/// lines. Where memory runs out nothing is appended.
 pub fn write_lines(lines: &[Line], out: &mut Vec<u8>) -> Result<(), Memory>
     requires some { 1 ≤ length lines.now }
     requires few { length lines.now ≤ 4294967295 }
+    ensures spelled { IsLinesText lines.now (lines_text lines.now) }
     ensures written { OnOk result (out.new.items ≡ out.old.items ++ lines_text lines.now) }
     ensures unchanged { OnErr result (out.new.items ≡ out.old.items) }
 {
+    tell_lines(lines);
     let start = out.len();
     let answer = put_lines(out, lines);
     if answer.is_err() {
