@@ -4,10 +4,10 @@
 set -e
 cd "$(dirname "$0")/.."
 mkdir -p bin
-(cd crates/lines_bench && rt run -- combs 1000 1 >/dev/null)
+(cd crates/bench_lines && rt run -- combs 1000 1 >/dev/null)
 (cd crates/bench_sources && rt run -- trees data/sum.xan 1 >/dev/null)
-cp crates/lines_bench/out/lines_bench crates/bench_sources/out/bench_sources bin/
-cc -O2 -o bin/bench_lines tools/bench_lines.c
+cp crates/bench_lines/out/bench_lines crates/bench_sources/out/bench_sources bin/
+cc -O2 -o bin/lines_in_c tools/bench_lines.c
 
 # nanoseconds that a command takes
 took() {
@@ -26,7 +26,7 @@ lines_a_second() {
 }
 
 for kind in combs cuts; do
-    echo "$kind: $(lines_a_second bin/lines_bench $kind) lines a second checked, $(lines_a_second bin/bench_lines $kind) by the loop in C"
+    echo "$kind: $(lines_a_second bin/bench_lines $kind) lines a second checked, $(lines_a_second bin/lines_in_c $kind) by the loop in C"
 done
 
 READINGS=10

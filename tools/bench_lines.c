@@ -1,4 +1,4 @@
-/* The sums of crates/lines_bench in a plain loop: rows of 65 words, each sum in 128 bits and tested against the bound. */
+/* The sums of crates/bench_lines in a plain loop: rows of 65 words, each sum in 128 bits and tested against the bound. */
 #include <stdint.h>
 #include <stdio.h>
 #include <stdlib.h>

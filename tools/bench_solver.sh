@@ -3,13 +3,13 @@
 set -e
 cd "$(dirname "$0")/.."
 mkdir -p bin
-(cd crates/solver_bench && rt run -- chain 8 3 >/dev/null)
-cp crates/solver_bench/out/solver_bench bin/
+(cd crates/bench_solver && rt run -- chain 8 3 >/dev/null)
+cp crates/bench_solver/out/bench_solver bin/
 
 # nanoseconds that a run takes
 nanoseconds() {
     start=$(date +%s%N)
-    bin/solver_bench "$1" "$2" "$3" >/dev/null
+    bin/bench_solver "$1" "$2" "$3" >/dev/null
     end=$(date +%s%N)
     echo $((end - start))
 }

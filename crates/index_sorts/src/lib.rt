@@ -9,8 +9,6 @@ mod compare;
 mod context;
 mod error;
 mod laws;
-#[cfg(test)]
-mod tests;
 
 pub use crate::context::Context;
 pub use crate::error::ContextError;

@@ -20,8 +20,6 @@ mod rows;
 mod state;
 mod store_laws;
 mod table;
-#[cfg(test)]
-mod tests;
 mod types;
 mod unpacking;
 mod values;

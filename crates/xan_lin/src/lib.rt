@@ -1,7 +1,7 @@
 //! Exact linear forms over numbered variables.
 //!
 //! A [`Form`] is a sum of terms and a constant. Every call is exact: it answers the form that the integers give, or says by which bound
-//! that form is too large. The crate stands on `arrayvec` and `itoa`, and no call but `write_form` takes memory.
+//! that form is too large. The crate stands on `xan_seq`, `arrayvec` and `itoa`, and no call but `write_form` takes memory.
 #![tactic(auto)]
 
 mod bound;
@@ -16,8 +16,6 @@ mod product_sum;
 mod replace;
 mod scale;
 mod term;
-#[cfg(test)]
-mod tests;
 mod text;
 mod wide;
 

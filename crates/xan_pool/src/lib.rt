@@ -6,7 +6,5 @@
 #![tactic(auto)]
 
 mod region;
-#[cfg(test)]
-mod tests;
 
 pub use crate::region::{Full, Mark, Memory, RowId, RowPool};

@@ -1,7 +1,7 @@
 //! The bounds from both sides, and each call once.
 ghost use Rattle.std.specs.Prelude.{◌≡◌, ◌<◌};
 
-use crate::{Context, ContextError};
+use index_sorts::{Context, ContextError};
 use std::test::Fail;
 use xan_lin::Form;
 

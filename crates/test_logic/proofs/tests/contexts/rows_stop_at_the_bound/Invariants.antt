@@ -1,5 +1,5 @@
 use Rattle.std.proofs.Common.{◌≡◌}
-use Rattle.index_sorts.proofs.tests.rows_stop_at_the_bound.Given as goal
+use Rattle.test_logic.proofs.tests.contexts.rows_stop_at_the_bound.Given as goal
 
 abbrev pub invariant-loop-var : goal.invariant-loop-var
 invariant-loop-var g l = l.context.vars ≡ 513

@@ -1,5 +1,5 @@
 //! Values of forms, also past 127 bits.
-use crate::{BOUND, Form, Term};
+use xan_lin::{BOUND, Form, Term};
 use std::test::Fail;
 
 // Whether the row holds, where each of its variables has a value.

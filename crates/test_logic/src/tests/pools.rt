@@ -1,5 +1,5 @@
 // Each call once, in a pool of two rows. The rows at the end are worked out by hand.
-use crate::{Full, Mark, Memory, RowPool};
+use xan_pool::{Full, Mark, Memory, RowPool};
 use std::test::Fail;
 
 #[test]

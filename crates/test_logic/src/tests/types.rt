@@ -2,7 +2,7 @@
 
 ghost use Rattle.std.specs.Prelude.{◌≡◌, ◌<◌, IfOk, IfSome, length};
 
-use crate::{
+use state_types::{
     Context, Memory, Packed, Places, Signature, StateError, StateType, Ty, TypeTable, match_params,
     match_types, meets, pack_goals, unpack,
 };

@@ -1,5 +1,5 @@
 //! Sums, differences and products, and how they are spelled.
-use crate::{BOUND, Form, Term, TooLarge};
+use xan_lin::{BOUND, Form, Term, TooLarge};
 use std::test::Fail;
 
 #[test]

@@ -1,5 +1,5 @@
 //! Forms in which the variables are replaced. The answers are worked out by hand.
-use crate::{BOUND, Form, Term, TooLarge};
+use xan_lin::{BOUND, Form, Term, TooLarge};
 use std::alloc::Global;
 use std::test::Fail;
 

@@ -1,0 +1,5 @@
+//! A module for each crate that is tested. The answers are worked out by hand.
+mod contexts;
+mod forms;
+mod pools;
+mod types;
