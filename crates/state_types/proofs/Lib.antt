@@ -3,7 +3,7 @@ pub mod Examples
 pub mod Refusing
 pub mod FormNames
 pub mod Pairing
-pub mod PlaceSearch
+pub mod PlaceWrites
 pub mod RowNames
 pub mod ShiftFacts
 pub mod Soundness

@@ -78,7 +78,7 @@ length-values_from assignment values below first (suc count) = ap suc (length-va
 
 -- ---- a match
 
-found_is : (values : List (ℕ × Linear)) (below : ℕ) (pairs : List Pair) (rows : List Linear) (found : Found) → found_with values below pairs rows ≡ Ok found
+pub found_is : (values : List (ℕ × Linear)) (below : ℕ) (pairs : List Pair) (rows : List Linear) (found : Found) → found_with values below pairs rows ≡ Ok found
     → (found.values ≡ values) × (demanded values below pairs rows ≡ Ok found.rows)
 unfolding found_with
 found_is values below pairs rows found e =

@@ -1,5 +1,5 @@
 -- What a call gives names only present variables.
-use Rattle.std.proofs.Common.{◌≡◌, ℕ, zero, suc, ◌+◌, ◌-◌, ◌≤◌, List, [], ◌∷◌, ◌++◌, map, get_or, Bool as Truth, true, false, cond, nat_lt, Option, Some, None, Ok, refl, sym, ◌∙◌, ap, subst, arith}
+use Rattle.std.proofs.Common.{◌≡◌, ℕ, zero, suc, ◌+◌, ◌-◌, ◌<◌, ◌≤◌, List, [], ◌∷◌, ◌++◌, map, get_or, Bool as Truth, true, false, cond, nat_lt, Option, Some, None, Ok, refl, sym, ◌∙◌, ap, subst, arith}
 use Rattle.std.specs.List.{All}
 use Rattle.std.proofs.lemmas.List.Elements.{All-nil, All-cons, All-head, All-tail, All-push, All-map}
 use Rattle.index_sorts.specs.Context.{IndexContext, fresh_from, with_variables}
@@ -20,10 +20,11 @@ use Rattle.state_types.specs.declared.types.Ty.{Ty}
 use Rattle.state_types.specs.declared.types.Ty.TheVariants.{Int, Bool, Array, Named}
 use Rattle.state_types.proofs.Edges.{pair_at_is, type_at-all}
 use Rattle.state_types.proofs.FormNames.{below-difference, below-zero, below-subst, below-more}
-use Rattle.state_types.proofs.Pairing.{pair_is}
+use Rattle.state_types.proofs.Pairing.{pair_is, found_is}
 use Rattle.state_types.proofs.ShiftFacts.{NamesBelow-shifted, first_is}
 use Rattle.state_types.proofs.Thens.{then_ok, within_ok, ok_same}
 use Rattle.state_types.proofs.Unpacked.{rows-vars}
+use Rattle.state_types.proofs.ValueLists.{values-keys}
 
 -- ---- types
 
@@ -181,6 +182,15 @@ match-below below vars n rows wanted actual found e le named =
     let here : Found = record { values = values; rows = t.value } in
     let done : FoundBelow n here = record { values = found_values; rows = demanded-below n below values s.value rows t.value le found_values present t.first } in
     subst (λ f. FoundBelow n f) (ok_same here found t.second) done
+
+-- and it lists only variables of the target
+pub match-keys : (below vars : ℕ) (rows : List Linear) (wanted actual : List Ty) (found : Found) → matched below vars rows wanted actual ≡ Ok found
+    → All (λ v. v.0 < vars) found.values
+unfolding matched
+match-keys below vars rows wanted actual found e =
+    let s = then_ok (pairs_of 0 wanted actual []) (λ pairs. found_with (values_for below (vars - below) pairs) below pairs rows) found e in
+    let f = found_is (values_for below (vars - below) s.value) below s.value rows found s.second in
+    subst (λ (vs : List (ℕ × Linear)). All (λ v. v.0 < vars) vs) (sym f.0) (values-keys below (vars - below) vars s.value (omega arith))
 
 pub edge-below : (state target : StateType) (values : List (ℕ × Linear)) (rows : List Linear) → meeting state target values ≡ Ok rows → ValuesBelow state.ctx.vars values
     → All (λ e. TypeBelow state.ctx.vars e.1) state.places → RowsBelow state.ctx.vars rows

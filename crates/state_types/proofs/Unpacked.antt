@@ -52,10 +52,10 @@ terms-front xs ys (t ∷ ts) named =
     ∙ ap (λ n. (t.coef *ℤ value_at xs t.var) +ℤ n) (terms-front xs ys ts (All-tail P t ts named))
     ∙ sym (value-cons xs t ts)
 
-value-behind : (xs ys : List ℤ) (form : Linear) → value_of (xs ++ ys) (shifted (length xs) form) ≡ value_of ys form
+pub value-behind : (xs ys : List ℤ) (form : Linear) → value_of (xs ++ ys) (shifted (length xs) form) ≡ value_of ys form
 value-behind xs ys form = ap (λ n. n +ℤ form.constant) (terms-behind xs ys form.terms)
 
-value-front : (xs ys : List ℤ) (form : Linear) → NamesBelow (length xs) form → value_of (xs ++ ys) form ≡ value_of xs form
+pub value-front : (xs ys : List ℤ) (form : Linear) → NamesBelow (length xs) form → value_of (xs ++ ys) form ≡ value_of xs form
 value-front xs ys form named = ap (λ n. n +ℤ form.constant) (terms-front xs ys form.terms named)
 
 -- ---- types under it
@@ -66,13 +66,13 @@ same_int xs ys e f same = record { carries = λ headers word h. h ∙ same }
 same_array : (xs ys : List ℤ) (p : ℕ) (e f : Linear) → value_of xs e ≡ value_of ys f → Carries xs ys (Array p e) (Array p f)
 same_array xs ys p e f same = record { carries = λ headers word h. subst (λ v. IsBlock headers word (2 * p) v) same h }
 
-part_carries : (xs ys : List ℤ) (ty : Ty) → Carries ys (xs ++ ys) ty (shifted_type (length xs) ty)
+pub part_carries : (xs ys : List ℤ) (ty : Ty) → Carries ys (xs ++ ys) ty (shifted_type (length xs) ty)
 part_carries xs ys (Int e) = same_int ys (xs ++ ys) e (shifted (length xs) e) (sym (value-behind xs ys e))
 part_carries xs ys Bool = record { carries = λ headers word h. h }
 part_carries xs ys (Array p e) = same_array ys (xs ++ ys) p e (shifted (length xs) e) (sym (value-behind xs ys e))
 part_carries xs ys (Named p) = record { carries = λ headers word h. h }
 
-present_keeps : (xs ys : List ℤ) (ty : Ty) → TypeBelow (length xs) ty → Carries xs (xs ++ ys) ty ty
+pub present_keeps : (xs ys : List ℤ) (ty : Ty) → TypeBelow (length xs) ty → Carries xs (xs ++ ys) ty ty
 present_keeps xs ys (Int e) named = same_int xs (xs ++ ys) e e (sym (value-front xs ys e named))
 present_keeps xs ys Bool named = record { carries = λ headers word h. h }
 present_keeps xs ys (Array p e) named = same_array xs (xs ++ ys) p e e (sym (value-front xs ys e named))
@@ -84,7 +84,7 @@ parts_carry xs ys (ty ∷ parts) = (part_carries xs ys ty, parts_carry xs ys par
 
 -- ---- rows
 
-Grown : IndexContext → Linear → IndexContext → Type 0
+pub Grown : IndexContext → Linear → IndexContext → Type 0
 Grown ctx row more = (more.vars ≡ ctx.vars) × ((values : List ℤ) → AllHold values ctx.rows → Holds values row → AllHold values more.rows)
 
 grown_by : (known full : Truth) (ctx : IndexContext) (row : Linear) (more : IndexContext)
@@ -98,11 +98,11 @@ grown_by false false ctx row more e =
     let same = ok_same _ more e in
     (ap (λ c. c.vars) (sym same), λ values holds here. subst (λ c. AllHold values c.rows) same (All-push (Holds values) ctx.rows row holds here))
 
-row_grows : (ctx : IndexContext) (row : Linear) (more : IndexContext) → with_row ctx row ≡ Ok more → Grown ctx row more
+pub row_grows : (ctx : IndexContext) (row : Linear) (more : IndexContext) → with_row ctx row ≡ Ok more → Grown ctx row more
 unfolding with_row
 row_grows ctx row more e = grown_by (knows ctx row) (nat_le 512 (length ctx.rows)) ctx row more e
 
-rows_grow : (values : List ℤ) (ctx more : IndexContext) (rows : List Linear) → with_rows ctx rows ≡ Ok more → AllHold values ctx.rows → AllHold values rows
+pub rows_grow : (values : List ℤ) (ctx more : IndexContext) (rows : List Linear) → with_rows ctx rows ≡ Ok more → AllHold values ctx.rows → AllHold values rows
     → (more.vars ≡ ctx.vars) × AllHold values more.rows
 unfolding with_rows Grown
 rows_grow values ctx more [] e before all =
@@ -121,10 +121,10 @@ rows-vars ctx more (row ∷ rows) e =
     let s = then_ok (with_row ctx row) (λ m. with_rows m rows) more e in
     rows-vars s.value more rows s.second ∙ (row_grows ctx row s.value s.first).0
 
-holds-front : (xs ys : List ℤ) (rows : List Linear) → All (NamesBelow (length xs)) rows → AllHold xs rows → AllHold (xs ++ ys) rows
+pub holds-front : (xs ys : List ℤ) (rows : List Linear) → All (NamesBelow (length xs)) rows → AllHold xs rows → AllHold (xs ++ ys) rows
 holds-front xs ys rows named holds = λ k d h. subst (λ n. pos 0 ≤ℤ n) (sym (value-front xs ys (get_or rows k d) (named k d h))) (holds k d h)
 
-holds-behind : (xs ys : List ℤ) (rows : List Linear) → AllHold ys rows → AllHold (xs ++ ys) (map (shifted (length xs)) rows)
+pub holds-behind : (xs ys : List ℤ) (rows : List Linear) → AllHold ys rows → AllHold (xs ++ ys) (map (shifted (length xs)) rows)
 holds-behind xs ys rows holds =
     All-map (Holds (xs ++ ys)) (shifted (length xs)) rows (λ k d h. subst (λ n. pos 0 ≤ℤ n) (sym (value-behind xs ys (get_or rows k d))) (holds k d h))
 

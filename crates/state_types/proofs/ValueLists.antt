@@ -1,6 +1,8 @@
 -- The list of values that a match finds.
 use Rattle.std.proofs.Common.{◌≡◌, ℕ, zero, suc, ◌+◌, ◌-◌, ◌<◌, ◌≤◌, List, [], ◌∷◌, ◌++◌, refl, sym, ◌∙◌, ap, subst, append_assoc, arith}
+use Rattle.std.specs.List.{All}
 use Rattle.std.proofs.lemmas.List.{append-nil}
+use Rattle.std.proofs.lemmas.List.Elements.{All-nil, All-cons}
 use Rattle.xan_lin.specs.Linear.{Linear}
 use Rattle.xan_lin.specs.Subst.{VariablesRise}
 use Rattle.state_types.specs.Matching.{value_for, values_for}
@@ -18,6 +20,14 @@ VariablesRise-values : (low first count : ℕ) (pairs : List Pair) → low ≤ f
 VariablesRise-values low first zero pairs le = subst (λ (vs : List (ℕ × Linear)). VariablesRise low vs) (sym (values-none first pairs)) tt
 VariablesRise-values low first (suc count) pairs le =
     subst (λ (vs : List (ℕ × Linear)). VariablesRise low vs) (sym (values-next first count pairs)) (le, VariablesRise-values (suc first) (suc first) count pairs (omega arith))
+
+-- each listed variable is less than the last
+pub values-keys : (first count last : ℕ) (pairs : List Pair) → count ≤ last - first → All (λ v. v.0 < last) (values_for first count pairs)
+values-keys first zero last pairs le = subst (λ (vs : List (ℕ × Linear)). All (λ v. v.0 < last) vs) (sym (values-none first pairs)) (All-nil (λ v. v.0 < last))
+values-keys first (suc count) last pairs le =
+    let P : ℕ × Linear → Type 0 = λ v. v.0 < last in
+    subst (λ (vs : List (ℕ × Linear)). All P vs) (sym (values-next first count pairs))
+    (All-cons P (first, value_for first pairs) (values_for (suc first) count pairs) (omega arith) (values-keys (suc first) count last pairs (omega arith)))
 
 -- one more value was put behind the others
 pub value_made : (made more all : List (ℕ × Linear)) (first last : ℕ) (value : Linear) (pairs : List Pair) → first < last → value ≡ value_for first pairs

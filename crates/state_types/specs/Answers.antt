@@ -1,5 +1,6 @@
 -- Answers that are a value or the first refusal, and what the code says of them.
 use Rattle.std.specs.Prelude.{◌≡◌, Result, Ok, Err}
+pub use Rattle.xan_seq.specs.Answers.{◌>>=◌}
 use Rattle.xan_lin.specs.declared.term.TooLarge.{TooLarge}
 use Rattle.state_types.specs.declared.error.StateError.{StateError}
 use Rattle.state_types.specs.declared.error.StateError.TheVariants.{Kind, Large, Memory}
@@ -7,12 +8,6 @@ use Rattle.state_types.specs.declared.error.StateError.TheVariants.{Kind, Large,
 -- a value, or why there is none; no definition answers `Memory`
 abbrev pub Check : Type 0 → Type 0
 Check A = Result A StateError
-
--- one part and then the next: a refusal of the first ends it
-infixl 10 ◌>>=◌
-abbrev pub ◌>>=◌ : {A B E : Type 0} → Result A E → (A → Result B E) → Result B E
-(Ok x) >>= next = next x
-(Err e) >>= next = Err e
 
 -- an exact result that must be within the bounds of forms
 abbrev pub within_bounds : {A : Type 0} → Result A TooLarge → Check A

@@ -32,8 +32,9 @@ pub use crate::laws::{
 };
 pub use crate::matching::{Found, match_params, match_types, pack_goals};
 pub use crate::naming_laws::{
-    edges_name_present_variables, matches_name_present_variables,
-    replaced_types_name_present_variables, unpacked_types_name_fresh_variables,
+    edges_name_present_variables, matches_list_the_targets_variables,
+    matches_name_present_variables, replaced_types_name_present_variables,
+    unpacked_types_name_fresh_variables,
 };
 pub use crate::place_map::Places;
 pub use crate::refusal_laws::{absent_places_are_found_first, kinds_are_compared_first};

@@ -1,6 +1,6 @@
 //! Which variables are named by what the calls give.
 
-ghost use Rattle.std.specs.Prelude.{◌≡◌, ℕ, ◌≤◌, List, Ok, All};
+ghost use Rattle.std.specs.Prelude.{◌≡◌, ℕ, ◌<◌, ◌≤◌, List, Ok, All};
 ghost use Rattle.index_sorts.specs.Context.{IndexContext};
 ghost use Rattle.xan_lin.specs.Linear.{Linear, NamesBelow};
 ghost use Rattle.state_types.specs.Matching.{matched, meeting};
@@ -17,6 +17,12 @@ ghost use Rattle.state_types.specs.declared.types.Ty.{Ty};
 pub fn matches_name_present_variables()
     ensures { (below vars present : ℕ) (rows : List Linear) (wanted actual : List Ty) (found : Found)
         → matched below vars rows wanted actual ≡ Ok found → below ≤ present → All (TypeBelow present) actual → FoundBelow present found }
+{}
+
+/// What a match finds lists only variables of the target.
+pub fn matches_list_the_targets_variables()
+    ensures { (below vars : ℕ) (rows : List Linear) (wanted actual : List Ty) (found : Found)
+        → matched below vars rows wanted actual ≡ Ok found → All (λ v. v.0 < vars) found.values }
 {}
 
 /// The rows of an edge name only variables of the present state, where the values and the present types do.

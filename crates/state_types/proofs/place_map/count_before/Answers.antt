@@ -1,6 +1,6 @@
 use Rattle.std.proofs.Common.{rules}
 use Rattle.std.proofs.lemmas.List.Sorted.{IsPartitionPoint-from_clause}
-use Rattle.state_types.proofs.PlaceSearch.{is_before, rises_partitioned}
+use Rattle.xan_seq.proofs.RisingKeys.{is_before, rises_partitioned}
 use Rattle.state_types.proofs.place_map.count_before.Goals as goal
 
 pub returns-clause-point : goal.returns-clause-point

@@ -1,6 +1,6 @@
 use Rattle.std.proofs.Common.{arith, ℕ, ◌∙◌}
 use Rattle.state_types.specs.PlaceTypes.{Ty}
-use Rattle.state_types.proofs.PlaceSearch.{set_is, insert_is}
+use Rattle.xan_seq.proofs.RisingKeys.{set_is, insert_is}
 use Rattle.state_types.proofs.place_map.set_among.Goals as goal
 
 pub index_mut-requires : goal.index_mut-requires

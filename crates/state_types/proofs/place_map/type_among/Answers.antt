@@ -1,14 +1,14 @@
 use Rattle.std.proofs.Common.{ℕ, ◌≡◌, get_or, ◌∙◌, sym, ap, arith, Option, Some}
 use Rattle.state_types.specs.PlaceTypes.{Ty}
 use Rattle.state_types.specs.declared.types.Ty.TheVariants.{Bool}
-use Rattle.state_types.proofs.PlaceSearch.{type-found, type-absent}
+use Rattle.xan_seq.proofs.RisingKeys.{value-found, value-absent}
 use Rattle.state_types.proofs.place_map.type_among.Goals as goal
 
 pub returns-in_default : goal.returns-in_default
 returns-in_default c =
     let none : ℕ × Ty = (0, Bool) in
     let g = c.in_default.ensures {u = tt} in
-    sym (type-absent 0 c.args.place c.count_before-at.result c.args.entries.now none c.requires c.count_before-at.ensures.point (λ h. absurd (omega (arith, g.lookup.3))))
+    sym (value-absent 0 c.args.place c.count_before-at.result c.args.entries.now none c.requires c.count_before-at.ensures.point (λ h. absurd (omega (arith, g.lookup.3))))
 
 pub returns-then-found-place : goal.returns-then-found-place
 returns-then-found-place c =
@@ -16,7 +16,7 @@ returns-then-found-place c =
     let at = c.count_before-at.result in
     let h = c.in-Some.ensures {u = tt} in
     let is : x ≡ get_or c.args.entries.now at x = h.lookup.1 in
-    sym (type-found 0 c.args.place at c.args.entries.now x c.requires h.lookup.3.0 (sym (ap (λ p. p.0) is) ∙ c.if-found-place.true)
+    sym (value-found 0 c.args.place at c.args.entries.now x c.requires h.lookup.3.0 (sym (ap (λ p. p.0) is) ∙ c.if-found-place.true)
     ∙ ap (λ p. let r : Option Ty = Some p.1 in r) (sym is))
 
 pub returns-else-found-place : goal.returns-else-found-place
@@ -25,4 +25,4 @@ returns-else-found-place c =
     let at = c.count_before-at.result in
     let h = c.in-Some.ensures {u = tt} in
     let is : x ≡ get_or c.args.entries.now at x = h.lookup.1 in
-    sym (type-absent 0 c.args.place at c.args.entries.now x c.requires c.count_before-at.ensures.point (λ l e. c.if-found-place.false (ap (λ p. p.0) is ∙ e)))
+    sym (value-absent 0 c.args.place at c.args.entries.now x c.requires c.count_before-at.ensures.point (λ l e. c.if-found-place.false (ap (λ p. p.0) is ∙ e)))

@@ -1,4 +1,4 @@
-use Rattle.state_types.proofs.PlaceSearch.{PlacesRise-set, type-after}
+use Rattle.state_types.proofs.PlaceWrites.{PlacesRise-set, type-after}
 use Rattle.state_types.proofs.place_map.Places.set.Goals as goal
 
 pub invariant_of-self : goal.invariant_of-self
