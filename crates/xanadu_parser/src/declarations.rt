@@ -38,9 +38,17 @@ fn type_declaration(
 {
     let name = tokens.upper()?;
     tokens.symbol(Symbol::Equal)?;
-    let quantifier = quantifier(alloc, tokens)?;
-    let body = type_body(alloc, tokens)?;
-    tokens.symbol(Symbol::Semicolon)?;
+    let quantifier = match quantifier(alloc, tokens) {
+        Ok(quantifier) => quantifier,
+        Err(stop) => return Err(stop.behind(name)),
+    };
+    let body = match type_body(alloc, tokens) {
+        Ok(body) => body,
+        Err(stop) => return Err(stop.behind(quantifier).behind(name)),
+    };
+    if let Err(stop) = tokens.symbol(Symbol::Semicolon) {
+        return Err(stop.behind(body).behind(quantifier).behind(name));
+    }
     Ok(TypeDeclaration {
         name,
         quantifier,
@@ -56,7 +64,10 @@ fn value_type(alloc: Global, tokens: &mut Tokens<'_>) -> Result<ResultType, Stop
 {
     if let Some(at) = tokens.eat_symbol(Symbol::LeftBrace) {
         let quantifier = quantified(alloc, tokens, at)?;
-        let ty = written_type(alloc, tokens)?;
+        let ty = match written_type(alloc, tokens) {
+            Ok(ty) => ty,
+            Err(stop) => return Err(stop.behind(quantifier)),
+        };
         return Ok(ResultType::Value {
             quantifier: Some(quantifier),
             ty,
@@ -94,11 +105,30 @@ fn function_declaration(
     ensures { Reads plain_function result tokens.new (spec.function_declaration room at tokens.old) }
 {
     let name = tokens.lower()?;
-    let quantifier = quantifier(alloc, tokens)?;
-    let parameters = parameters(alloc, tokens)?;
-    tokens.symbol(Symbol::Colon)?;
-    let result = result_type(alloc, tokens)?;
-    let body = block(alloc, tokens, room)?;
+    let quantifier = match quantifier(alloc, tokens) {
+        Ok(quantifier) => quantifier,
+        Err(stop) => return Err(stop.behind(name)),
+    };
+    let parameters = match parameters(alloc, tokens) {
+        Ok(parameters) => parameters,
+        Err(stop) => return Err(stop.behind(quantifier).behind(name)),
+    };
+    if let Err(stop) = tokens.symbol(Symbol::Colon) {
+        return Err(stop.behind(parameters).behind(quantifier).behind(name));
+    }
+    let result = match result_type(alloc, tokens) {
+        Ok(result) => result,
+        Err(stop) => return Err(stop.behind(parameters).behind(quantifier).behind(name)),
+    };
+    let body = match block(alloc, tokens, room) {
+        Ok(body) => body,
+        Err(stop) => return Err(
+            stop.behind(result)
+                .behind(parameters)
+                .behind(quantifier)
+                .behind(name),
+        ),
+    };
     Ok(FunctionDeclaration {
         name,
         quantifier,

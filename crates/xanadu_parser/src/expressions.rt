@@ -95,7 +95,10 @@ impl<F: Fn(Global, &mut Tokens<'_>, usize) -> Result<Expression, Stop>> Levels<F
     {
         let first = self.conjunction(tokens)?;
         let at = first.at;
-        let rest = self.conjunctions(tokens)?;
+        let rest = match self.conjunctions(tokens) {
+            Ok(rest) => rest,
+            Err(stop) => return Err(stop.behind(first)),
+        };
         Ok(Expression { first, rest, at })
     }
 
@@ -122,7 +125,10 @@ impl<F: Fn(Global, &mut Tokens<'_>, usize) -> Result<Expression, Stop>> Levels<F
     {
         let first = self.negation(tokens)?;
         let at = first.at;
-        let rest = self.negations(tokens)?;
+        let rest = match self.negations(tokens) {
+            Ok(rest) => rest,
+            Err(stop) => return Err(stop.behind(first)),
+        };
         Ok(Conjunction { first, rest, at })
     }
 
@@ -160,7 +166,10 @@ impl<F: Fn(Global, &mut Tokens<'_>, usize) -> Result<Expression, Stop>> Levels<F
     {
         let left = self.sum(tokens)?;
         let at = left.at;
-        let right = self.compared(tokens)?;
+        let right = match self.compared(tokens) {
+            Ok(right) => right,
+            Err(stop) => return Err(stop.behind(left)),
+        };
         Ok(Comparison { left, right, at })
     }
 
@@ -187,7 +196,10 @@ impl<F: Fn(Global, &mut Tokens<'_>, usize) -> Result<Expression, Stop>> Levels<F
     {
         let first = self.product(tokens)?;
         let at = first.at;
-        let rest = self.products(tokens)?;
+        let rest = match self.products(tokens) {
+            Ok(rest) => rest,
+            Err(stop) => return Err(stop.behind(first)),
+        };
         Ok(Sum { first, rest, at })
     }
 
@@ -214,7 +226,10 @@ impl<F: Fn(Global, &mut Tokens<'_>, usize) -> Result<Expression, Stop>> Levels<F
     {
         let first = self.unary(tokens)?;
         let at = first.at;
-        let rest = self.operands(tokens)?;
+        let rest = match self.operands(tokens) {
+            Ok(rest) => rest,
+            Err(stop) => return Err(stop.behind(first)),
+        };
         Ok(Product { first, rest, at })
     }
 
@@ -232,6 +247,18 @@ impl<F: Fn(Global, &mut Tokens<'_>, usize) -> Result<Expression, Stop>> Levels<F
         })
     }
 
+    /// An index and the `]` behind it, with the place of the `[` before it.
+    fn index(&self, tokens: &mut Tokens<'_>, at: u32) -> Result<(Expression, u32), Stop>
+        requires { Nests self.now.room (F.pre self.now.expression) (F.post self.now.expression) }
+        ensures { Reads in_brackets result tokens.new (spec.one_index (spec.expression self.now.room) at tokens.old) }
+    {
+        let index = self.inner(tokens)?;
+        match tokens.symbol(Symbol::RightBracket) {
+            Ok(_) => Ok((index, at)),
+            Err(stop) => Err(stop.behind(index)),
+        }
+    }
+
     /// Indices in brackets.
     #[tactic(auto, unfolding(crate::specs::Expressions::indices))]
     fn indices(&self, tokens: &mut Tokens<'_>) -> Result<Vec<(Expression, u32)>, Stop>
@@ -243,9 +270,7 @@ impl<F: Fn(Global, &mut Tokens<'_>, usize) -> Result<Expression, Stop>> Levels<F
             let Some(at) = tokens.eat_symbol(Symbol::LeftBracket) else {
                 return Ok(found);
             };
-            let index = self.inner(tokens)?;
-            tokens.symbol(Symbol::RightBracket)?;
-            found.push((index, at))?;
+            found.push(self.index(tokens, at)?)?;
         }
         Ok(found)
     }
@@ -257,7 +282,10 @@ impl<F: Fn(Global, &mut Tokens<'_>, usize) -> Result<Expression, Stop>> Levels<F
     {
         let primary = self.primary(tokens)?;
         let at = primary_at(&primary);
-        let indices = self.indices(tokens)?;
+        let indices = match self.indices(tokens) {
+            Ok(indices) => indices,
+            Err(stop) => return Err(stop.behind(primary)),
+        };
         Ok(Postfix {
             primary,
             indices,
@@ -338,7 +366,9 @@ impl<F: Fn(Global, &mut Tokens<'_>, usize) -> Result<Expression, Stop>> Levels<F
         ensures { Reads (λ e. plain_expression e.value) result tokens.new (spec.closed (spec.expression self.now.room) tokens.old) }
     {
         let value = self.inner(tokens)?;
-        tokens.symbol(Symbol::RightParen)?;
+        if let Err(stop) = tokens.symbol(Symbol::RightParen) {
+            return Err(stop.behind(value));
+        }
         Ok(Box::new(self.alloc, value)?)
     }
 

@@ -20,8 +20,10 @@ fn ended(alloc: Global, tokens: &mut Tokens<'_>, room: usize) -> Result<Expressi
     ensures { Reads plain_expression result tokens.new (spec.ended room tokens.old) }
 {
     let value = expression(alloc, tokens, room)?;
-    tokens.symbol(Symbol::Semicolon)?;
-    Ok(value)
+    match tokens.symbol(Symbol::Semicolon) {
+        Ok(_) => Ok(value),
+        Err(stop) => Err(stop.behind(value)),
+    }
 }
 
 /// An expression in parentheses.
@@ -31,8 +33,10 @@ fn test(alloc: Global, tokens: &mut Tokens<'_>, room: usize) -> Result<Expressio
 {
     tokens.symbol(Symbol::LeftParen)?;
     let test = expression(alloc, tokens, room)?;
-    tokens.symbol(Symbol::RightParen)?;
-    Ok(test)
+    match tokens.symbol(Symbol::RightParen) {
+        Ok(_) => Ok(test),
+        Err(stop) => Err(stop.behind(test)),
+    }
 }
 
 /// What is behind `var`.
@@ -168,9 +172,18 @@ fn branches(alloc: Global, tokens: &mut Tokens<'_>, room: usize, at: u32) -> Res
     ensures { Reads plain_statement result tokens.new (spec.branches room (spec.block room) at tokens.old) }
 {
     let test = test(alloc, tokens, room)?;
-    let on_true = block(alloc, tokens, room)?;
-    let on_false = otherwise(alloc, tokens, room)?;
-    let join = clause_behind(alloc, tokens, Keyword::Join)?;
+    let on_true = match block(alloc, tokens, room) {
+        Ok(on_true) => on_true,
+        Err(stop) => return Err(stop.behind(test)),
+    };
+    let on_false = match otherwise(alloc, tokens, room) {
+        Ok(on_false) => on_false,
+        Err(stop) => return Err(stop.behind(on_true).behind(test)),
+    };
+    let join = match clause_behind(alloc, tokens, Keyword::Join) {
+        Ok(join) => join,
+        Err(stop) => return Err(stop.behind(on_false).behind(on_true).behind(test)),
+    };
     Ok(Statement::If {
         test,
         on_true,
@@ -199,8 +212,14 @@ fn repeated(alloc: Global, tokens: &mut Tokens<'_>, room: usize, at: u32) -> Res
     ensures { Reads plain_statement result tokens.new (spec.repeated_block room (spec.block room) at tokens.old) }
 {
     let test = test(alloc, tokens, room)?;
-    let head = clause_behind(alloc, tokens, Keyword::With)?;
-    let body = block(alloc, tokens, room)?;
+    let head = match clause_behind(alloc, tokens, Keyword::With) {
+        Ok(head) => head,
+        Err(stop) => return Err(stop.behind(test)),
+    };
+    let body = match block(alloc, tokens, room) {
+        Ok(body) => body,
+        Err(stop) => return Err(stop.behind(head).behind(test)),
+    };
     Ok(Statement::While {
         test,
         head,

@@ -15,6 +15,15 @@ pub enum Stop {
     Memory,
 }
 
+impl Stop {
+    /// This stop, behind a value that was read before it and is let go.
+    pub fn behind<T: Drop>(self, _value: T) -> Stop
+        ensures { result ≡ self }
+    {
+        self
+    }
+}
+
 impl From<Memory> for Stop {
     ghost from_gives = { λ _ error. error ≡ stop.Memory };
 

@@ -47,8 +47,10 @@ fn length(alloc: Global, tokens: &mut Tokens<'_>) -> Result<Option<IndexExpressi
         return Ok(None);
     }
     let length = index_expression(alloc, tokens)?;
-    tokens.symbol(Symbol::RightBracket)?;
-    Ok(Some(length))
+    match tokens.symbol(Symbol::RightBracket) {
+        Ok(_) => Ok(Some(length)),
+        Err(stop) => Err(stop.behind(length)),
+    }
 }
 
 /// What is behind an `int` that no `[` follows: its index in parentheses, or nothing.
@@ -60,8 +62,10 @@ fn number_type(alloc: Global, tokens: &mut Tokens<'_>, at: u32) -> Result<Type, 
         return Ok(Type::Int(at));
     }
     let index = index_expression(alloc, tokens)?;
-    tokens.symbol(Symbol::RightParen)?;
-    Ok(Type::IntOf(index, at))
+    match tokens.symbol(Symbol::RightParen) {
+        Ok(_) => Ok(Type::IntOf(index, at)),
+        Err(stop) => Err(stop.behind(index)),
+    }
 }
 
 /// A type.
