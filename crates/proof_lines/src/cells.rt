@@ -1,5 +1,5 @@
 //! Rows as 65 cells: one for each column of a variable, and the constant.
-ghost use Rattle.std.specs.Prelude.{◌≡◌, ◌<◌, ◌≤◌, ◌&&◌, ◌∷◌, ◌++◌, [], pos, true, false, IsTrue, MatchOption, length, take, map, nat_lt, int_lt};
+ghost use Rattle.std.specs.Prelude.{◌≡◌, ◌^◌, unsigned_abs, ◌<◌, ◌≤◌, ◌&&◌, ◌∷◌, ◌++◌, [], pos, true, false, IsTrue, MatchOption, length, take, map, nat_lt, int_lt};
 ghost use Rattle.std.specs.List.{list_all, slice_index_or};
 ghost use Rattle.arrayvec.specs.ArrayVec.{array_vec_len};
 ghost use Rattle.xan_lin.specs.Terms.{IsRising};
@@ -10,9 +10,9 @@ ghost use Rattle.proof_lines.specs.Check.{is_positive};
 ghost use Rattle.proof_lines.specs.Cells.{AreDifferent, dense, IsBlankBehind, is_zero, combined_cells, cannot_hold};
 
 use crate::columns::{Columns, MOST_COLUMNS};
-use crate::row::{number_combination, number_floor, number_quotient};
+use crate::row::{number_floor, number_quotient};
 use arrayvec::ArrayVec;
-use xan_lin::Term;
+use xan_lin::{Term, combine_numbers};
 
 /// The cells of a row: those of the variables by their columns, and the constant.
 pub(crate) type Cells = ArrayVec<i64, 65>;
@@ -52,19 +52,19 @@ pub(crate) fn combined(
     requires few { used ≤ 64 }
     requires left { IsBlankBehind used left.now }
     requires right { IsBlankBehind used right.now }
-    requires left_by { IsTrue (is_positive left_by.now) }
-    requires right_by { IsTrue (is_positive right_by.now) }
+    requires left_by { unsigned_abs left_by.now < 2 ^ 63 }
+    requires right_by { unsigned_abs right_by.now < 2 ^ 63 }
     ensures { MatchOption result (list_all is_within (combined_cells left_by.now left.now right_by.now right.now) ≡ false)
         (λ cells. (cells.items ≡ combined_cells left_by.now left.now right_by.now right.now) × (list_all is_within cells.items ≡ true)) }
 {
     let mut cells = [0i64; WIDTH];
     'columns: for place in 0..used {
-        let Some(cell) = number_combination(&left[place], left_by, &right[place], right_by) else {
+        let Some(cell) = combine_numbers(&left[place], left_by, &right[place], right_by) else {
             return None;
         };
         cells[place] = cell;
     }
-    let Some(constant) = number_combination(
+    let Some(constant) = combine_numbers(
         &left[MOST_COLUMNS],
         left_by,
         &right[MOST_COLUMNS],

@@ -17,13 +17,13 @@ columns-preserved c =
     combines_more _ _ _ _ _ _ c.in-Some.cell _ _ c.columns.invariant c.requires.left c.requires.right c.requires.few c.columns-test.true exact.0 exact.1
     (ap (λ n. set c.columns.cells c.columns.place n) (to_z-of_z w64 c.in-Some.cell fits))
 
-pub returns-in_default-number_combination : goal.returns-in_default-number_combination
-returns-in_default-number_combination c =
-    constant_past _ _ _ _ _ c.requires.left c.requires.right c.requires.few (c.in_default-number_combination.ensures {u = tt})
+pub returns-in_default-combine_numbers : goal.returns-in_default-combine_numbers
+returns-in_default-combine_numbers c =
+    constant_past _ _ _ _ _ c.requires.left c.requires.right c.requires.few (c.in_default-combine_numbers.ensures {u = tt})
 
 pub returns : goal.returns
 returns c =
-    let fits : FitsSigned w64 c.in-Some-number_combination.constant = search rules in
-    let exact = c.in-Some-number_combination.ensures {u = tt} in
-    combines_all _ _ _ _ _ _ c.in-Some-number_combination.constant _ _ c.columns.invariant c.requires.left c.requires.right c.requires.few (omega arith) (omega arith) exact.0 exact.1
-    (c.from.ensures.0 ∙ ap (λ n. set c.columns.cells 64 n) (to_z-of_z w64 c.in-Some-number_combination.constant fits))
+    let fits : FitsSigned w64 c.in-Some-combine_numbers.constant = search rules in
+    let exact = c.in-Some-combine_numbers.ensures {u = tt} in
+    combines_all _ _ _ _ _ _ c.in-Some-combine_numbers.constant _ _ c.columns.invariant c.requires.left c.requires.right c.requires.few (omega arith) (omega arith) exact.0 exact.1
+    (c.from.ensures.0 ∙ ap (λ n. set c.columns.cells 64 n) (to_z-of_z w64 c.in-Some-combine_numbers.constant fits))
