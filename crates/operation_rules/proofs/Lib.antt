@@ -1,0 +1,14 @@
+pub mod LongerValues
+pub mod RuleFacts
+pub mod WordsRead
+pub mod NumbersGiven
+pub mod NumbersFare
+pub mod SidesTaken
+pub mod BlocksFound
+pub mod BlocksRead
+pub mod StoresGrown
+pub mod BlocksMade
+pub mod ListedValues
+pub mod CallsFare
+pub mod OperationsFare
+pub mod RuleExamples

@@ -1,0 +1,11 @@
+pub mod Operations
+pub mod Effects
+pub mod FlatWords
+pub mod Faults
+pub mod Forms
+pub mod Rules
+pub mod Applied
+pub mod Sides
+pub mod Entry
+pub mod Stored
+pub mod Sound

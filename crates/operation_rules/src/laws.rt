@@ -1,0 +1,22 @@
+//! Typed operations go well.
+
+ghost use Rattle.std.specs.Prelude.{◌≡◌, ◌≤◌, ℤ, List, Ok};
+ghost use Rattle.index_sorts.specs.Context.{IndexContext};
+ghost use Rattle.index_sorts.specs.Entails.{AllHold};
+ghost use Rattle.state_types.specs.declared.types.Ty.{Ty};
+ghost use Rattle.operation_rules.specs.Applied.{Ruled, applied};
+ghost use Rattle.operation_rules.specs.Effects.{Stores, effect};
+ghost use Rattle.operation_rules.specs.Operations.{Operation};
+ghost use Rattle.operation_rules.specs.Rules.{Setting, Rule, rule};
+ghost use Rattle.operation_rules.specs.Sound.{IsSetting, Stands, Fares};
+ghost use Rattle.operation_rules.specs.Stored.{IsStores, StoreFits};
+
+/// Where the words that an operation reads have their types under an assignment, the store fits, and the demanded rows hold, the operation is
+/// not stuck, and what comes out has its types under the assignment with values of the fresh variables behind it.
+pub fn operations_are_sound<S>()
+    ensures { (stores : Stores S) (st : Setting) (op : Operation) (types : List Ty) (ctx : IndexContext) (r : Rule) (ruled : Ruled)
+        (assignment words : List ℤ) (store : S) → IsStores stores → IsSetting st → st.own.vars ≤ ctx.vars
+        → rule st op types ctx.vars ≡ Ok r → applied r ctx ≡ Ok ruled → Stands (stores.headers store) assignment ctx words types
+        → StoreFits stores st.table store → AllHold assignment ruled.demands
+        → Fares stores st op types store assignment ctx ruled (effect stores op words store) }
+{}

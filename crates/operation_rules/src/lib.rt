@@ -1,0 +1,10 @@
+//! What operations do to words, and what they demand and give in types.
+//!
+//! A source's constructs, the code over places and the text's instructions are the same operations. `specs/` says once what each does to
+//! words and a store, and what it demands of the types that it reads and gives to those that it writes. The laws join the two. It stands on
+//! `state_types`, `index_sorts` and `xan_lin` for types, and on `xan_io` for ends and arguments.
+#![tactic(auto)]
+
+mod laws;
+
+pub use crate::laws::operations_are_sound;
