@@ -10,13 +10,16 @@ use Rattle.xanadu_tree.specs.PlainTreeOf.{to_branch, to_statements}
 use Rattle.xanadu_tree.specs.Pieces.{Piece, Spelled, word_at, mark as mark_piece, mark_at, optional}
 use Rattle.xanadu_tree.specs.Spelling.{expression_pieces, statement_pieces, branch_pieces, block_pieces, statements_pieces, clause_pieces, clause_behind}
 use Rattle.xanadu_tree.specs.Written.{WhereGiven, IsClause, IsStatement, IsBranch, IsBlock, AreStatements, PlacedClause, PlacedStatement, PlacedBranch, PlacedBlock, PlacedStatements}
-use Rattle.xanadu_parser.specs.Reader.{eat, take, give, made, in_turn, where_comes}
+use Rattle.xan_read.specs.Combinators.{give, made, in_turn}
+use Rattle.xan_read.specs.Symbols.{eat, take, where_comes, Closed}
+use Rattle.xan_read.specs.Rooms.{ExactWithin}
+use Rattle.xan_read.proofs.RoomLaws.{within-as}
+use Rattle.xan_read.proofs.UntilLaws.{within-until}
+use Rattle.xanadu_parser.specs.Reader.{Family}
 use Rattle.xanadu_parser.specs.Tables.{mark, keyword, is_symbol, is_keyword}
 use Rattle.xanadu_parser.specs.Types as types
 use Rattle.xanadu_parser.specs.Statements as read
-use Rattle.xanadu_parser.proofs.Exact.{Family, Exact, exact-as}
 use Rattle.xanadu_parser.proofs.Deeper.{exact-none, exact-deeper}
-use Rattle.xanadu_parser.proofs.ExactUntil.{Closed, exact-until}
 use Rattle.xanadu_parser.proofs.Saying.{Said, Formed, Any, Ends, spelled-append, spelled-split, spelled-first, spelled-none, said-take, formed-made, formed-field, said-of, said-choice, said-choice-any, said-give, ends-mark}
 use Rattle.xanadu_parser.proofs.Taken.{at_0, mark-kind, mark-table, keyword-kind, keyword-table}
 use Rattle.xanadu_parser.proofs.Follows.{by_word, no_word, fewer_words, mark-none, keyword-none, not_taken, no_text}
@@ -64,7 +67,7 @@ abbrev IsAsked : Option plain.WrittenClause → Type 0
 IsAsked o = WhereGiven IsClause o × WhereGiven PlacedClause o
 
 exact_clause_behind : (most slack : ℕ) (k : Keyword) (Stops : List Token → Type 0) → ((rest : List Token) → Stops rest → eat (keyword k) rest ≡ None)
-    → Exact most slack (λ _. types.clause_behind k) (Said IsAsked (optional (clause_behind k))) Stops
+    → ExactWithin most slack (λ _. types.clause_behind k) (Said IsAsked (optional (clause_behind k))) Stops
 unfolding types.clause_behind
 exact_clause_behind most slack k Stops none = said-choice-any most slack slack (keyword k) (kind.Keyword k) (λ _ _. made Some types.clause) (λ _. give None) (λ c. Some c) FitsClause clause_pieces (λ o. o ≡ None) IsAsked (optional (clause_behind k)) Stops Stops (keyword-kind k)
     (λ _. formed-made most slack Some (λ _. types.clause) FitsClause clause_pieces Stops (exact-clause most slack Stops)) (said-give most slack None (optional (clause_behind k)) Stops refl) (omega arith)
@@ -146,8 +149,8 @@ behind_clause b text rest h = let p = block_split b in
 abbrev NoWith : List Token → Type 0
 NoWith rest = eat (keyword word_of.With) rest ≡ None
 
-module _ (most : ℕ) (inner : Family plain.Block) (exact : (Stops : List Token → Type 0) → Exact most 0 inner (Said FitsBlock block_pieces) Stops) where
-  otherwise_said : Exact most 0 (λ room. read.otherwise room (inner room)) (Said FitsBranch branch_of) (Ends (by_word is_else))
+module _ (most : ℕ) (inner : Family plain.Block) (exact : (Stops : List Token → Type 0) → ExactWithin most 0 inner (Said FitsBlock block_pieces) Stops) where
+  otherwise_said : ExactWithin most 0 (λ room. read.otherwise room (inner room)) (Said FitsBranch branch_of) (Ends (by_word is_else))
   unfolding read.otherwise IsBranch PlacedBranch branch_pieces
   otherwise_said = said-choice-any most 0 0 (keyword word_of.Else) (kind.Keyword word_of.Else) (λ _ room. made Some (inner room)) (λ _. give None) (λ b. Some b) FitsBlock block_pieces (λ o. o ≡ None) FitsBranch branch_of (Ends (by_word is_else)) (Ends (by_word is_else))
       (keyword-kind word_of.Else) (λ _. formed-made most 0 Some inner FitsBlock block_pieces (Ends (by_word is_else)) (exact (Ends (by_word is_else)))) (said-give most 0 None branch_of (Ends (by_word is_else)) refl) (omega arith)
@@ -158,7 +161,7 @@ module _ (most : ℕ) (inner : Family plain.Block) (exact : (Stops : List Token 
       split None f = inr refl
       split (Some b) f = inl (b, refl, f)
 
-  branches_said : (at : ℕ) → Exact most 0 (λ room. read.branches room (inner room) at) (Formed (λ (z : If_). plain.If z.0 z.1.0 (to_branch z.1.1.0) z.1.1.1 at) if_fits if_parts) AfterStatement
+  branches_said : (at : ℕ) → ExactWithin most 0 (λ room. read.branches room (inner room) at) (Formed (λ (z : If_). plain.If z.0 z.1.0 (to_branch z.1.1.0) z.1.1.1 at) if_fits if_parts) AfterStatement
   unfolding read.branches
   branches_said at = formed-field most 0 0 (λ room. read.condition room) (λ t room. in_turn (inner room) (λ y. in_turn (read.otherwise room (inner room)) (λ n. made (λ c. plain.If t y (to_branch n) c at) (types.clause_behind word_of.Join))))
       (λ t z. plain.If t z.0 (to_branch z.1.0) z.1.1 at) FitsExpression (λ z. FitsBlock z.0 × (FitsBranch z.1.0 × IsAsked z.1.1)) (λ e. mark_piece symbol.LeftParen ∷ then_paren e) (λ z. block_pieces z.0 ++ (branch_of z.1.0 ++ optional (clause_behind word_of.Join) z.1.1))
@@ -173,7 +176,7 @@ module _ (most : ℕ) (inner : Family plain.Block) (exact : (Stops : List Token 
       (λ _ _ _. omega arith) (λ _ _ _ _ _ _. tt))
       (λ _ _ _. omega arith) (λ _ _ _ _ _ _. tt)
 
-  repeated_said : (at : ℕ) → Exact most 0 (λ room. read.repeated_block room (inner room) at) (Formed (λ (z : While_). plain.While z.0 z.1.0 z.1.1 at) while_fits while_parts) AfterStatement
+  repeated_said : (at : ℕ) → ExactWithin most 0 (λ room. read.repeated_block room (inner room) at) (Formed (λ (z : While_). plain.While z.0 z.1.0 z.1.1 at) while_fits while_parts) AfterStatement
   unfolding read.repeated_block
   repeated_said at = formed-field most 0 0 (λ room. read.condition room) (λ t room. in_turn (types.clause_behind word_of.With) (λ c. made (λ b. plain.While t c b at) (inner room))) (λ t z. plain.While t z.0 z.1 at) FitsExpression (λ z. IsAsked z.0 × FitsBlock z.1)
       (λ e. mark_piece symbol.LeftParen ∷ then_paren e) (λ z. optional (clause_behind word_of.With) z.0 ++ block_pieces z.1) (λ _. Unit {0}) AfterStatement (test_said most (λ _. Unit {0}))
@@ -185,7 +188,7 @@ module _ (most : ℕ) (inner : Family plain.Block) (exact : (Stops : List Token 
   abbrev While__ : Family plain.Statement
   While__ room = where_comes (keyword word_of.While) (read.repeated_block room (inner room)) (read.simple room)
 
-  while_or_later : Exact most 0 While__ (Said (From 1) statement_pieces) AfterStatement
+  while_or_later : ExactWithin most 0 While__ (Said (From 1) statement_pieces) AfterStatement
   unfolding IsStatement PlacedStatement statement_pieces
   while_or_later = said-choice most 0 0 (keyword word_of.While) (λ at room. read.repeated_block room (inner room) at) (λ room. read.simple room) (λ at (z : While_). plain.While z.0 z.1.0 z.1.1 at) Any (λ at. word_at word_of.While at) while_fits while_parts
       (From 2) (From 1) statement_pieces AfterStatement AfterStatement (keyword-table word_of.While) repeated_said (simple_said most AfterStatement) (omega arith)
@@ -198,7 +201,7 @@ module _ (most : ℕ) (inner : Family plain.Block) (exact : (Stops : List Token 
       split (plain.While t c b at) f = inl (at, (t, (c, b)), refl, tt, ((f.0.0.0, f.0.1.0), ((f.0.0.1, f.0.1.1), (f.0.0.2, f.0.1.2))))
       split _ f = inr (f.0, omega (arith, f.1))
 
-  statement_said : Exact most 0 (λ room. read.statement room (inner room)) (Said FitsStatement statement_pieces) AfterStatement
+  statement_said : ExactWithin most 0 (λ room. read.statement room (inner room)) (Said FitsStatement statement_pieces) AfterStatement
   unfolding IsStatement PlacedStatement statement_pieces read.statement
   statement_said = said-choice most 0 0 (keyword word_of.If) (λ at room. read.branches room (inner room) at) While__ (λ at (z : If_). plain.If z.0 z.1.0 (to_branch z.1.1.0) z.1.1.1 at) Any (λ at. word_at word_of.If at) if_fits if_parts
       (From 1) FitsStatement statement_pieces AfterStatement AfterStatement (keyword-table word_of.If) branches_said while_or_later (omega arith)
@@ -243,7 +246,7 @@ closed_said : (ss : List plain.Statement) (text : List Token) → Closed (mark s
 unfolding AreStatements PlacedStatements statements_pieces
 closed_said [] text e = record {
   fits = (tt, tt);
-  spelled = subst (λ (l : List Token). Spelled (mark_piece symbol.RightBrace ∷ []) l) (sym e.parts) (record { kind = (mark-kind symbol.RightBrace).into e.token e.value e.decides; at = tt }, tt);
+  spelled = subst (λ (l : List Token). Spelled (mark_piece symbol.RightBrace ∷ []) l) (sym e.parts) (record { kind = (mark-kind symbol.RightBrace).into e.symbol e.value e.decides; at = tt }, tt);
 }
 closed_said (s ∷ ss) text o = let more = closed_said ss o.back o.others in record {
   fits = ((o.first.fits.0, more.fits.0), (o.first.fits.1, more.fits.1));
@@ -255,7 +258,7 @@ closed_said (s ∷ ss) text o = let more = closed_said ss o.back o.others in rec
 said_closed : (ss : List plain.Statement) (text : List Token) → Said FitStatements closed_statements ss text → Closed (mark symbol.RightBrace) IsStatementText ss text
 unfolding AreStatements PlacedStatements statements_pieces
 said_closed [] text h = let f = spelled-first (mark_piece symbol.RightBrace) [] text h.spelled in record {
-  token = f.token;
+  symbol = f.token;
   value = (mark-kind symbol.RightBrace).value f.token;
   decides = (mark-kind symbol.RightBrace).back f.token f.is.kind;
   parts = f.parts ∙ ap (λ (l : List Token). f.token ∷ l) (spelled-none f.back f.others);
@@ -271,15 +274,15 @@ said_closed (s ∷ ss) text h =
       parts = p.parts;
     }
 
-module _ (most : ℕ) (inner : Family plain.Block) (exact : (Stops : List Token → Type 0) → Exact most 0 inner (Said FitsBlock block_pieces) Stops) where
-  statements_said : (Stops : List Token → Type 0) → Exact most 0 (λ room. read.statements room (inner room)) (Said FitStatements closed_statements) Stops
+module _ (most : ℕ) (inner : Family plain.Block) (exact : (Stops : List Token → Type 0) → ExactWithin most 0 inner (Said FitsBlock block_pieces) Stops) where
+  statements_said : (Stops : List Token → Type 0) → ExactWithin most 0 (λ room. read.statements room (inner room)) (Said FitStatements closed_statements) Stops
   unfolding read.statements
-  statements_said Stops = exact-as most 0 (λ room. read.statements room (inner room)) (Closed (mark symbol.RightBrace) IsStatementText) (Said FitStatements closed_statements) Stops Stops
-      (exact-until most 0 (mark symbol.RightBrace) (λ room. read.statement room (inner room)) IsStatementText AfterStatement (statement_said most inner exact)
+  statements_said Stops = within-as most 0 (λ room. read.statements room (inner room)) (Closed (mark symbol.RightBrace) IsStatementText) (Said FitStatements closed_statements) Stops Stops
+      (within-until most 0 (mark symbol.RightBrace) (λ room. read.statement room (inner room)) IsStatementText AfterStatement (statement_said most inner exact)
       (record {
         value = tt;
         text = at_0 (kind.Symbol symbol.RightBrace) ∷ [];
-        is = record { token = at_0 (kind.Symbol symbol.RightBrace); value = (mark-kind symbol.RightBrace).value (at_0 (kind.Symbol symbol.RightBrace)); decides = (mark-kind symbol.RightBrace).back (at_0 (kind.Symbol symbol.RightBrace)) refl; parts = refl };
+        is = record { symbol = at_0 (kind.Symbol symbol.RightBrace); value = (mark-kind symbol.RightBrace).value (at_0 (kind.Symbol symbol.RightBrace)); decides = (mark-kind symbol.RightBrace).back (at_0 (kind.Symbol symbol.RightBrace)) refl; parts = refl };
       })
       (λ s front h. nonempty (first_piece s) (later_pieces s) front (parted s front h))
       (λ s front rest h. not_taken (mark symbol.RightBrace) (first_piece s) (later_pieces s) front rest (λ token is. mark-none symbol.RightBrace token (first_piece s).kind is (no_brace_first s)) (parted s front h))
@@ -287,7 +290,7 @@ module _ (most : ℕ) (inner : Family plain.Block) (exact : (Stops : List Token 
       (λ token a rest e. ap (by_word after_statement) ((mark-kind symbol.RightBrace).into token a e)) Stops)
       closed_said said_closed (λ _ h. h)
 
-  opened_said : (Stops : List Token → Type 0) → Exact most 1 (λ room. in_turn (take (mark symbol.LeftBrace)) (λ at. made (λ ss. plain.BlockOf (to_statements ss) at) (read.statements room (inner room)))) (Said FitsBlock block_pieces) Stops
+  opened_said : (Stops : List Token → Type 0) → ExactWithin most 1 (λ room. in_turn (take (mark symbol.LeftBrace)) (λ at. made (λ ss. plain.BlockOf (to_statements ss) at) (read.statements room (inner room)))) (Said FitsBlock block_pieces) Stops
   unfolding IsBlock PlacedBlock block_pieces
   opened_said Stops = said-of most 1 (λ room. in_turn (take (mark symbol.LeftBrace)) (λ at. made (λ ss. plain.BlockOf (to_statements ss) at) (read.statements room (inner room)))) (λ (z : ℕ × List plain.Statement). plain.BlockOf (to_statements z.1) z.0) (λ z. Unit {0} × FitStatements z.1)
       (λ z. mark_at symbol.LeftBrace z.0 ∷ [] ++ closed_statements z.1) FitsBlock block_pieces Stops Stops
@@ -310,7 +313,7 @@ empty_block : Said FitsBlock block_pieces (plain.BlockOf plain.NoStatement 0) (a
 unfolding IsBlock PlacedBlock AreStatements PlacedStatements block_pieces statements_pieces
 empty_block = record { fits = (tt, tt); spelled = (record { kind = refl; at = refl }, (record { kind = refl; at = tt }, tt)) }
 
-pub exact-block : (most : ℕ) (Stops : List Token → Type 0) → Exact most 0 read.block (Said FitsBlock block_pieces) Stops
+pub exact-block : (most : ℕ) (Stops : List Token → Type 0) → ExactWithin most 0 read.block (Said FitsBlock block_pieces) Stops
 unfolding read.block
 exact-block zero Stops = exact-none read.block (Said FitsBlock block_pieces) Stops
     (record { value = plain.BlockOf plain.NoStatement 0; text = at_0 (kind.Symbol symbol.LeftBrace) ∷ at_0 (kind.Symbol symbol.RightBrace) ∷ []; is = empty_block }) (λ tokens. refl)

@@ -4,16 +4,18 @@ use Rattle.xanadu_lexer.specs.declared.symbol.Symbol.{Symbol}
 use Rattle.xanadu_lexer.specs.declared.token.Token.{Token}
 use Rattle.xanadu_lexer.specs.declared.token.TokenKind.TheVariants as kind
 use Rattle.xanadu_tree.specs.Pieces.{Piece, IsPiece, Spelled, placed}
-use Rattle.xanadu_parser.specs.Reader.{Table, eat, made, in_turn, where_comes, repeated}
+use Rattle.xan_read.specs.Combinators.{made, in_turn}
+use Rattle.xan_read.specs.Symbols.{eat, where_comes, repeated}
+use Rattle.xan_read.specs.Rooms.{ExactWithin}
+use Rattle.xanadu_parser.specs.Reader.{Table, Family}
 use Rattle.xanadu_parser.specs.Tables.{mark}
-use Rattle.xanadu_parser.proofs.Exact.{Family, Exact}
 use Rattle.xanadu_parser.proofs.Saying.{Said, Formed, Any, Ends, spelled-none, formed-made, formed-map, formed-field, said-of, said-choice, ends-mark, IsTable}
 use Rattle.xanadu_parser.proofs.SayingLists.{said-repeated}
 use Rattle.xanadu_parser.proofs.Taken.{mark-table}
 use Rattle.xanadu_parser.proofs.Follows.{by_mark, fewer, ends_at}
 
 module _ {Head Part Item : Type 0} (most : ℕ) (part : Family Part) (FitsPart : Part → Type 0) (part_pieces : Part → List Piece) (after_part after_whole : Symbol → Bool)
-    (exact : Exact most 1 part (Said FitsPart part_pieces) (Ends (by_mark after_part)))
+    (exact : ExactWithin most 1 part (Said FitsPart part_pieces) (Ends (by_mark after_part)))
     (table : Table Head) (FitsHead : Head → Type 0) (head_piece : Head → Piece) (is : IsTable table FitsHead head_piece)
     (item : Head → Part → Item) (head_of : Item → Head) (part_of : Item → Part) (head_is : (h : Head) (p : Part) → head_of (item h p) ≡ h) (part_is : (h : Head) (p : Part) → part_of (item h p) ≡ p)
     (item_is : (x : Item) → x ≡ item (head_of x) (part_of x))
@@ -39,7 +41,7 @@ module _ {Head Part Item : Type 0} (most : ℕ) (part : Family Part) (FitsPart :
         subst (λ (q : Part). Spelled (part_pieces q) text) (sym (part_is h f.parts)) f.spelled,
       )
 
-  exact_others : Exact most 1 Others (Formed {Z = List Item} (λ xs. xs) AllFit pieces) (Ends (by_mark after_whole))
+  exact_others : ExactWithin most 1 Others (Formed {Z = List Item} (λ xs. xs) AllFit pieces) (Ends (by_mark after_whole))
   exact_others = said-repeated most 1 1 table (λ h room. made (item h) (part room)) (λ h. Formed (item h) FitsPart part_pieces) (Ends (by_mark after_part)) (Ends (by_mark after_whole))
       FitsItem (λ x. head_piece (head_of x)) (λ x. part_pieces (part_of x)) AllFit pieces
       (λ h. formed-made most 1 (item h) part FitsPart part_pieces (Ends (by_mark after_part)) exact) (omega arith)
@@ -59,7 +61,7 @@ module _ {Head Part Item : Type 0} (most : ℕ) (part : Family Part) (FitsPart :
   -- a part and the others
   module _ {Whole : Type 0} (whole : Part → List Item → Whole) (FitsWhole : Whole → Type 0) (whole_pieces : Whole → List Piece) (fits : (p : Part) (xs : List Item) → FitsPart p → AllFit xs → FitsWhole (whole p xs))
       (same : (p : Part) (xs : List Item) → whole_pieces (whole p xs) ≡ part_pieces p ++ pieces xs) (split : (w : Whole) → FitsWhole w → (z : Part × List Item) × (w ≡ whole z.0 z.1) × (FitsPart z.0 × AllFit z.1)) where
-    pub exact-chain : Exact most 1 (λ room. in_turn (part room) (λ p. made (whole p) (repeated table (λ h. made (item h) (part room)) []))) (Said FitsWhole whole_pieces) (Ends (by_mark after_whole))
+    pub exact-chain : ExactWithin most 1 (λ room. in_turn (part room) (λ p. made (whole p) (repeated table (λ h. made (item h) (part room)) []))) (Said FitsWhole whole_pieces) (Ends (by_mark after_whole))
     exact-chain = said-of most 1 (λ room. in_turn (part room) (λ p. made (whole p) (Others room))) (λ (z : Part × List Item). whole z.0 z.1) (λ z. FitsPart z.0 × AllFit z.1) (λ z. part_pieces z.0 ++ pieces z.1) FitsWhole whole_pieces
         (Ends (by_mark after_whole)) (Ends (by_mark after_whole))
         (formed-field most 1 1 part (λ p room. made (whole p) (Others room)) whole FitsPart AllFit part_pieces pieces (Ends (by_mark after_part)) (Ends (by_mark after_whole)) exact
@@ -67,7 +69,7 @@ module _ {Head Part Item : Type 0} (most : ℕ) (part : Family Part) (FitsPart :
         (λ z f. fits z.0 z.1 f.0 f.1) (λ z. same z.0 z.1) split (λ _ h. h)
 
 -- a part with a mark in front, or none
-module _ {Part Whole : Type 0} (most : ℕ) (part : Family Part) (FitsPart : Part → Type 0) (part_pieces : Part → List Piece) (After : List Token → Type 0) (exact : Exact most 1 part (Said FitsPart part_pieces) After)
+module _ {Part Whole : Type 0} (most : ℕ) (part : Family Part) (FitsPart : Part → Type 0) (part_pieces : Part → List Piece) (After : List Token → Type 0) (exact : ExactWithin most 1 part (Said FitsPart part_pieces) After)
     (s : Symbol) (marked : ℕ → Part → Whole) (bare : Part → Whole) (FitsWhole : Whole → Type 0) (whole_pieces : Whole → List Piece)
     (marked_fits : (at : ℕ) (p : Part) → FitsPart p → FitsWhole (marked at p)) (bare_fits : (p : Part) → FitsPart p → FitsWhole (bare p))
     (marked_same : (at : ℕ) (p : Part) → whole_pieces (marked at p) ≡ placed (kind.Symbol s) at ∷ part_pieces p) (bare_same : (p : Part) → whole_pieces (bare p) ≡ part_pieces p)
@@ -76,7 +78,7 @@ module _ {Part Whole : Type 0} (most : ℕ) (part : Family Part) (FitsPart : Par
   abbrev IsBare : Whole → Type 0
   IsBare w = (p : Part) × (w ≡ bare p) × FitsPart p
 
-  pub exact-marked : Exact most 1 (λ room. where_comes (mark s) (λ at. made (marked at) (part room)) (made bare (part room))) (Said FitsWhole whole_pieces) After
+  pub exact-marked : ExactWithin most 1 (λ room. where_comes (mark s) (λ at. made (marked at) (part room)) (made bare (part room))) (Said FitsWhole whole_pieces) After
   exact-marked = said-choice most 1 1 (mark s) (λ at room. made (marked at) (part room)) (λ room. made bare (part room)) marked Any (λ at. placed (kind.Symbol s) at) FitsPart part_pieces IsBare FitsWhole whole_pieces After After (mark-table s)
       (λ at. formed-made most 1 (marked at) part FitsPart part_pieces After exact)
       (said-of most 1 (λ room. made bare (part room)) bare FitsPart part_pieces IsBare whole_pieces After After (formed-made most 1 bare part FitsPart part_pieces After exact)

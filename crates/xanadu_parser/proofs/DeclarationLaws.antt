@@ -15,13 +15,14 @@ use Rattle.xanadu_tree.specs.Pieces.{Piece, Spelled, word_at, mark as mark_piece
 use Rattle.xanadu_tree.specs.Spelling as spelling
 use Rattle.xanadu_tree.specs.Spelling.{semicolon, quantifier_pieces, type_pieces, type_body_pieces, type_declaration_pieces, result_pieces, function_pieces, declaration_pieces, block_pieces}
 use Rattle.xanadu_tree.specs.Written.{PlacedType, PlacedParameter, IsTypeBody, PlacedTypeBody, IsResult, PlacedResult, IsDeclaration, PlacedDeclaration, type_at}
-use Rattle.xanadu_parser.specs.Reader.{eat, take, give, made, in_turn, behind, before}
+use Rattle.xan_read.specs.Combinators.{give, made, in_turn}
+use Rattle.xan_read.specs.Symbols.{eat, take, behind, before}
+use Rattle.xan_read.specs.Rooms.{ExactWithin}
 use Rattle.xanadu_parser.specs.Tables.{mark, keyword, lower, upper, is_symbol, is_keyword}
 use Rattle.xanadu_parser.specs.Index as index
 use Rattle.xanadu_parser.specs.Types as types
 use Rattle.xanadu_parser.specs.Statements.{block}
 use Rattle.xanadu_parser.specs.Declarations as read
-use Rattle.xanadu_parser.proofs.Exact.{Exact}
 use Rattle.xanadu_parser.proofs.Saying.{Said, Formed, Any, Ends, said-take, formed-give, formed-made, formed-map, formed-field, formed-behind, said-of, said-choice, said-choice-any, formed-as, said-before, ends-mark}
 use Rattle.xanadu_parser.proofs.Taken.{at_0, mark-kind, mark-table, keyword-table, lower-table, upper-table}
 use Rattle.xanadu_parser.proofs.Follows.{by_mark, ends_at, mark-none, keyword-none, not_taken}
@@ -63,7 +64,7 @@ closed_types ts = with_commas type_pieces ts ++ (mark_piece symbol.RightParen �
 abbrev AfterType : List Token → Type 0
 AfterType = Ends (by_mark after_type)
 
-exact_type_body : (most slack : ℕ) → Exact most slack (λ _. read.type_body) (Said FitsTypeBody type_body_pieces) AfterType
+exact_type_body : (most slack : ℕ) → ExactWithin most slack (λ _. read.type_body) (Said FitsTypeBody type_body_pieces) AfterType
 unfolding read.type_body
 exact_type_body most slack = said-choice-any most slack slack (mark symbol.LeftParen) (kind.Symbol symbol.LeftParen) (λ _ _. made plain.Tuple (before (mark symbol.RightParen) types.types)) (λ _. made plain.Cell types.written_type) plain.Tuple AreTypes closed_types
     IsCell FitsTypeBody type_body_pieces AfterType AfterType (mark-kind symbol.LeftParen)
@@ -89,7 +90,7 @@ no_brace_body (plain.Tuple ts) text rest h = ends-mark (by_mark no_brace) (mark_
 abbrev Type_ : Type 0
 Type_ = Identifier × (Option plain.Quantifier × plain.TypeBody)
 
-exact_type_declaration : (most slack at : ℕ) (Stops : List Token → Type 0) → Exact most slack (λ _. read.type_declaration at) (Formed (λ (z : Type_). read.type_of at z.0 z.1.0 z.1.1) (λ z. Unit {0} × (MayBeQuantified z.1.0 × FitsTypeBody z.1.1))
+exact_type_declaration : (most slack at : ℕ) (Stops : List Token → Type 0) → ExactWithin most slack (λ _. read.type_declaration at) (Formed (λ (z : Type_). read.type_of at z.0 z.1.0 z.1.1) (λ z. Unit {0} × (MayBeQuantified z.1.0 × FitsTypeBody z.1.1))
     (λ z. spelling.upper z.0 ∷ [] ++ (mark_piece symbol.Equal ∷ (optional quantifier_pieces z.1.0 ++ then_semicolon z.1.1)))) Stops
 unfolding read.type_declaration
 exact_type_declaration most slack at Stops = formed-field most slack slack (λ _. take upper) (λ name _. behind (mark symbol.Equal) (in_turn index.quantifier (λ q. made (read.type_of at name q) (before (mark symbol.Semicolon) read.type_body)))) (λ name z. read.type_of at name z.0 z.1)
@@ -119,7 +120,7 @@ IsValue (plain.AValue q t at) = FitsResult (plain.AValue q t at)
 abbrev Value_ : Type 0
 Value_ = (List Binder × List plain.Relation) × plain.WrittenType
 
-exact_quantified_value : (most slack at : ℕ) → Exact most slack (λ _. in_turn (index.quantified at) (λ q. made (λ t. plain.AValue (Some q) t at) types.written_type))
+exact_quantified_value : (most slack at : ℕ) → ExactWithin most slack (λ _. in_turn (index.quantified at) (λ q. made (λ t. plain.AValue (Some q) t at) types.written_type))
     (Formed (λ (z : Value_). plain.AValue (Some (quantifier_at at z.0)) z.1 at) (λ z. IsQuantified (quantifier_at 0 z.0) × PlacedType z.1) (λ z. behind_brace (quantifier_at 0 z.0) ++ type_pieces z.1)) AfterType
 exact_quantified_value most slack at = formed-as most slack (λ _. in_turn (index.quantified at) (λ q. made (λ t. plain.AValue (Some q) t at) types.written_type)) (λ (z : plain.Quantifier × plain.WrittenType). plain.AValue (Some z.0) z.1 at)
     (λ z. ((z.0.at ≡ at) × IsQuantified z.0) × PlacedType z.1) (λ z. behind_brace z.0 ++ type_pieces z.1)
@@ -129,7 +130,7 @@ exact_quantified_value most slack at = formed-as most slack (λ _. in_turn (inde
     (λ z f. (((z.0.binders, z.0.relations), z.1), ap (λ (n : ℕ). plain.AValue (Some (index.quantifier_of n z.0.binders z.0.relations)) z.1 at) f.0.0, (f.0.1, f.1), refl))
     (λ w f. ((quantifier_at at w.0, w.1), refl, ((refl, f.0), f.1), refl))
 
-exact_value : (most slack : ℕ) → Exact most slack (λ _. read.value_type) (Said IsValue result_pieces) AfterType
+exact_value : (most slack : ℕ) → ExactWithin most slack (λ _. read.value_type) (Said IsValue result_pieces) AfterType
 unfolding read.value_type
 exact_value most slack = said-choice most slack slack (mark symbol.LeftBrace) (λ at _. in_turn (index.quantified at) (λ q. made (λ t. plain.AValue (Some q) t at) types.written_type)) (λ _. made (λ t. plain.AValue None t (type_at t)) types.written_type)
     (λ at z. plain.AValue (Some (quantifier_at at z.0)) z.1 at) Any (λ at. mark_at symbol.LeftBrace at) (λ z. IsQuantified (quantifier_at 0 z.0) × PlacedType z.1) (λ z. behind_brace (quantifier_at 0 z.0) ++ type_pieces z.1)
@@ -144,7 +145,7 @@ exact_value most slack = said-choice most slack slack (mark symbol.LeftBrace) (�
     split (plain.AValue None t at) f = inr (t, ap (plain.AValue None t) f.1.0, f.1.2)
     split (plain.AValue (Some q) t at) f = inl (q.at, ((q.binders, q.relations), t), ap (plain.AValue (Some q) t) f.1.0, tt, ((f.0, f.1.1), f.1.2))
 
-exact_result : (most slack : ℕ) → Exact most slack (λ _. read.result_type) (Said FitsResult result_pieces) AfterType
+exact_result : (most slack : ℕ) → ExactWithin most slack (λ _. read.result_type) (Said FitsResult result_pieces) AfterType
 unfolding read.result_type
 exact_result most slack = said-choice most slack slack (keyword word_of.Unit) (λ at _. give (plain.NoValue at)) (λ _. read.value_type) (λ at (_ : Unit {0}). plain.NoValue at) Any (λ at. word_at word_of.Unit at) (λ _. Unit {0}) (λ _. [])
     IsValue FitsResult result_pieces AfterType AfterType (keyword-table word_of.Unit) (λ at. formed-give most slack (plain.NoValue at) AfterType) (exact_value most slack) (omega arith) (λ at _ _ _. (tt, tt)) (λ at _. refl) other split stops
@@ -191,7 +192,7 @@ behind_result b text rest h = let p = block_split b in
     ends-mark (by_mark after_type) (mark_at symbol.LeftBrace p.0) (spelling.statements_pieces p.1 ++ (mark_piece symbol.RightBrace ∷ [])) text rest (subst (λ (q : List Piece). Spelled q text) p.2 h) refl
 
 module _ (most : ℕ) (Stops : List Token → Type 0) where
-  function_said : (at : ℕ) → Exact most 0 (λ room. read.function_declaration room at) (Formed (λ (z : Function_). read.function_of at z.0 z.1.0 z.1.1.0 z.1.1.1.0 z.1.1.1.1) function_fits function_parts) Stops
+  function_said : (at : ℕ) → ExactWithin most 0 (λ room. read.function_declaration room at) (Formed (λ (z : Function_). read.function_of at z.0 z.1.0 z.1.1.0 z.1.1.1.0 z.1.1.1.1) function_fits function_parts) Stops
   unfolding read.function_declaration
   function_said at = formed-field most 0 0 (λ _. take lower) (λ name room. in_turn index.quantifier (λ q. in_turn types.parameters (λ ps. behind (mark symbol.Colon) (in_turn read.result_type (λ r. made (read.function_of at name q ps r) (block room))))))
       (λ name z. read.function_of at name z.0 z.1.0 z.1.1.0 z.1.1.1) (λ _. Unit {0}) (λ z. MayBeQuantified z.0 × (All PlacedParameter z.1.0 × (FitsResult z.1.1.0 × FitsBlock z.1.1.1))) (λ x. spelling.lower x ∷ [])
@@ -224,7 +225,7 @@ nonempty piece pieces [] h = absurd h
 nonempty piece pieces (t ∷ ts) h = omega arith
 
 module _ (most : ℕ) where
-  of_function_said : Exact most 1 (λ room. in_turn (take (keyword word_of.Fun)) (λ at. made plain.OfFunction (read.function_declaration room at))) (Said IsOfFunction declaration_pieces) (λ _. Unit {0})
+  of_function_said : ExactWithin most 1 (λ room. in_turn (take (keyword word_of.Fun)) (λ at. made plain.OfFunction (read.function_declaration room at))) (Said IsOfFunction declaration_pieces) (λ _. Unit {0})
   of_function_said = said-of most 1 (λ room. in_turn (take (keyword word_of.Fun)) (λ at. made plain.OfFunction (read.function_declaration room at)))
       (λ (z : ℕ × Function_). plain.OfFunction (read.function_of z.0 z.1.0 z.1.1.0 z.1.1.1.0 z.1.1.1.1.0 z.1.1.1.1.1)) (λ z. Unit {0} × function_fits z.1) (λ z. word_at word_of.Fun z.0 ∷ [] ++ function_parts z.1) IsOfFunction declaration_pieces (λ _. Unit {0}) (λ _. Unit {0})
       (formed-field most 1 0 (λ _. take (keyword word_of.Fun)) (λ at room. made plain.OfFunction (read.function_declaration room at)) (λ at (z : Function_). plain.OfFunction (read.function_of at z.0 z.1.0 z.1.1.0 z.1.1.1.0 z.1.1.1.1)) (λ _. Unit {0}) function_fits
@@ -240,7 +241,7 @@ module _ (most : ℕ) where
       split (plain.OfType d) f = absurd f
       split (plain.OfFunction d) f = ((d.at, (d.name, (d.quantifier, (d.parameters, (d.result, d.body))))), refl, (tt, (tt, ((f.0.0, f.1.0), (f.1.1, ((f.0.1, f.1.2), (f.0.2, f.1.3)))))))
 
-  pub exact-declaration : Exact most 1 read.declaration (Said FitsDeclaration declaration_pieces) (λ _. Unit {0})
+  pub exact-declaration : ExactWithin most 1 read.declaration (Said FitsDeclaration declaration_pieces) (λ _. Unit {0})
   unfolding read.declaration
   exact-declaration = said-choice most 1 0 (keyword word_of.«Type») (λ at _. made plain.OfType (read.type_declaration at)) (λ room. in_turn (take (keyword word_of.Fun)) (λ at. made plain.OfFunction (read.function_declaration room at)))
       (λ at (z : Type_). plain.OfType (read.type_of at z.0 z.1.0 z.1.1)) Any (λ at. word_at word_of.«Type» at) (λ z. Unit {0} × (MayBeQuantified z.1.0 × FitsTypeBody z.1.1))

@@ -5,7 +5,7 @@ use Rattle.xanadu_lexer.specs.declared.symbol.Symbol.{Symbol}
 use Rattle.xanadu_lexer.specs.declared.token.Token.{Token}
 use Rattle.xanadu_lexer.specs.declared.token.TokenKind.{TokenKind}
 use Rattle.xanadu_lexer.specs.declared.token.TokenKind.TheVariants as kind
-use Rattle.xanadu_parser.specs.Reader.{eat}
+use Rattle.xan_read.specs.Symbols.{eat}
 use Rattle.xanadu_parser.specs.Tables.{symbol_among, by_symbol, as_symbol, placed, next_symbol, mark_eaten}
 
 abbrev ahead_of : {A : Type 0} → List Token → A → A × List Token

@@ -13,56 +13,64 @@ use Rattle.xanadu_tree.specs.Pieces.{Piece, Spelled, placed, word_at, mark as ma
 use Rattle.xanadu_tree.specs.Spelling as spelling
 use Rattle.xanadu_tree.specs.Spelling.{expression_pieces, conjunction_pieces, negation_pieces, comparison_pieces, sum_pieces, product_pieces, unary_pieces, postfix_pieces, primary_pieces, indices_pieces, arguments_pieces, more_arguments_pieces}
 use Rattle.xanadu_tree.specs.Written.{IsExpression, AreExpressions, AreArguments, IsPrimary, PlacedExpression, PlacedExpressions, PlacedPrimary}
-use Rattle.xanadu_parser.specs.Reader.{eat, give, made, in_turn, behind}
+use Rattle.xan_read.specs.Combinators.{give, made, in_turn}
+use Rattle.xan_read.specs.Symbols.{eat, behind}
+use Rattle.xan_read.specs.Rooms.{ExactWithin}
+use Rattle.xanadu_parser.specs.Reader.{Family}
 use Rattle.xanadu_parser.specs.Tables.{mark, is_symbol}
 use Rattle.xanadu_parser.specs.Types.{element}
 use Rattle.xanadu_parser.specs.Expressions as read
-use Rattle.xanadu_parser.proofs.Exact.{Family, Exact}
 use Rattle.xanadu_parser.proofs.Saying.{Said, Formed, Any, Ends, formed-give, formed-made, formed-field, formed-behind, said-of, said-choice-any, formed-of, said-before, said-give, ends-mark}
 use Rattle.xanadu_parser.proofs.SayingLists.{said-separated}
 use Rattle.xanadu_parser.proofs.Taken.{at_0, mark-kind}
 use Rattle.xanadu_parser.proofs.Follows.{by_mark, no_mark, fewer, ends_at, mark-none, not_taken, no_text}
 use Rattle.xanadu_parser.proofs.TypeLaws.{exact-element}
+use Rattle.xanadu_parser.proofs.MarkSets.{among, not_among, not_within}
 
 -- ---- what goes on with an expression
 
 -- what may follow a name: no parenthesis; a primary: no parenthesis and no bracket; and so on, level by level
+abbrev pub primary_marks : List Symbol
+primary_marks = symbol.LeftParen ∷ []
+
 abbrev pub after_primary : Symbol → Bool
-after_primary symbol.LeftParen = true
-after_primary _ = false
+after_primary = among primary_marks
+
+abbrev pub postfix_marks : List Symbol
+postfix_marks = symbol.LeftBracket ∷ primary_marks
 
 abbrev pub after_postfix : Symbol → Bool
-after_postfix symbol.LeftParen = true
-after_postfix symbol.LeftBracket = true
-after_postfix _ = false
+after_postfix = among postfix_marks
+
+abbrev pub product_marks : List Symbol
+product_marks = symbol.Star ∷ symbol.Slash ∷ symbol.Percent ∷ postfix_marks
 
 abbrev pub after_product : Symbol → Bool
-after_product symbol.Star = true
-after_product symbol.Slash = true
-after_product symbol.Percent = true
-after_product s = after_postfix s
+after_product = among product_marks
+
+abbrev pub sum_marks : List Symbol
+sum_marks = symbol.Plus ∷ symbol.Minus ∷ product_marks
 
 abbrev pub after_sum : Symbol → Bool
-after_sum symbol.Plus = true
-after_sum symbol.Minus = true
-after_sum s = after_product s
+after_sum = among sum_marks
+
+abbrev pub comparison_marks : List Symbol
+comparison_marks = symbol.Less ∷ symbol.LessEqual ∷ symbol.Greater ∷ symbol.GreaterEqual ∷ symbol.EqualEqual ∷ symbol.NotEqual ∷ sum_marks
 
 abbrev pub after_comparison : Symbol → Bool
-after_comparison symbol.Less = true
-after_comparison symbol.LessEqual = true
-after_comparison symbol.Greater = true
-after_comparison symbol.GreaterEqual = true
-after_comparison symbol.EqualEqual = true
-after_comparison symbol.NotEqual = true
-after_comparison s = after_sum s
+after_comparison = among comparison_marks
+
+abbrev pub conjunction_marks : List Symbol
+conjunction_marks = symbol.And ∷ comparison_marks
 
 abbrev pub after_conjunction : Symbol → Bool
-after_conjunction symbol.And = true
-after_conjunction s = after_comparison s
+after_conjunction = among conjunction_marks
+
+abbrev pub expression_marks : List Symbol
+expression_marks = symbol.Or ∷ conjunction_marks
 
 abbrev pub after_expression : Symbol → Bool
-after_expression symbol.Or = true
-after_expression s = after_conjunction s
+after_expression = among expression_marks
 
 -- ---- which expressions the grammar has
 
@@ -112,17 +120,17 @@ pub list_of-is : (es : plain.Expressions) → es ≡ to_expressions (list_of es)
 list_of-is plain.NoExpression = refl
 list_of-is (plain.AnExpression e es) = ap (plain.AnExpression e) (list_of-is es)
 
+abbrev list_marks : List Symbol
+list_marks = symbol.Comma ∷ expression_marks
+
 abbrev after_list : Symbol → Bool
-after_list symbol.Comma = true
-after_list s = after_expression s
+after_list = among list_marks
 
 list_expression : (s : Symbol) → after_list s ≡ false → after_expression s ≡ false
-list_expression symbol.Comma e = refl
-list_expression s e = e
+list_expression = not_within list_marks expression_marks refl
 
 list_comma : (s : Symbol) → after_list s ≡ false → is_symbol symbol.Comma (kind.Symbol s) ≡ false
-list_comma symbol.Comma e = absurd cc
-list_comma _ e = refl
+list_comma = not_among list_marks symbol.Comma refl
 
 -- ---- arguments
 
@@ -133,15 +141,15 @@ closed_arguments es = arguments_pieces (to_expressions es) ++ (mark_piece symbol
 abbrev pub SomeFit : List plain.Expression → Type 0
 SomeFit es = AreArguments (to_expressions es) × FitExpressions es
 
-module _ (most : ℕ) (inner : Family plain.Expression) (exact : Exact most 0 inner (Said FitsExpression expression_pieces) (Ends (by_mark after_expression))) where
-  exact_listed : Exact most 0 (λ room. read.listed (inner room)) (Formed {Z = plain.Expression × List plain.Expression} (λ q. (q.0 ∷ []) ++ q.1) (λ q. FitsExpression q.0 × FitExpressions q.1) (λ q. expression_pieces q.0 ++ more_pieces q.1)) (Ends (by_mark after_list))
+module _ (most : ℕ) (inner : Family plain.Expression) (exact : ExactWithin most 0 inner (Said FitsExpression expression_pieces) (Ends (by_mark after_expression))) where
+  exact_listed : ExactWithin most 0 (λ room. read.listed (inner room)) (Formed {Z = plain.Expression × List plain.Expression} (λ q. (q.0 ∷ []) ++ q.1) (λ q. FitsExpression q.0 × FitExpressions q.1) (λ q. expression_pieces q.0 ++ more_pieces q.1)) (Ends (by_mark after_list))
   unfolding read.listed
   exact_listed = said-separated most 0 (mark symbol.Comma) (kind.Symbol symbol.Comma) inner FitsExpression expression_pieces FitExpressions more_pieces (Ends (by_mark after_expression)) (Ends (by_mark after_list)) (mark-kind symbol.Comma) exact
       (λ token rest is. ends_at after_expression token rest (kind.Symbol symbol.Comma) is refl)
       (λ rest h. (fewer after_list after_expression list_expression rest h, no_mark after_list symbol.Comma list_comma rest h))
       no_more_pieces more_pieces-cons none_fit more_fit parts_fit
 
-  exact_some_arguments : (Stops : List Token → Type 0) → Exact most 0 (λ room. read.some_arguments (inner room)) (Said SomeFit closed_arguments) Stops
+  exact_some_arguments : (Stops : List Token → Type 0) → ExactWithin most 0 (λ room. read.some_arguments (inner room)) (Said SomeFit closed_arguments) Stops
   unfolding read.some_arguments
   exact_some_arguments Stops = said-before most 0 (mark symbol.RightParen) (kind.Symbol symbol.RightParen) (λ room. read.listed (inner room)) SomeFit (λ es. arguments_pieces (to_expressions es)) (Ends (by_mark after_list)) Stops
       (mark-kind symbol.RightParen) (at_0 (kind.Symbol symbol.RightParen)) refl
@@ -315,8 +323,7 @@ abbrev IsNamedBy : Identifier → plain.Primary → Type 0
 IsNamedBy name p = (o : Option (List plain.Expression)) × (p ≡ named_of name o) × named_fits o
 
 after_primary_paren : (s : Symbol) → after_primary s ≡ false → is_symbol symbol.LeftParen (kind.Symbol s) ≡ false
-after_primary_paren symbol.LeftParen e = absurd cc
-after_primary_paren _ e = refl
+after_primary_paren = not_among primary_marks symbol.LeftParen refl
 
 named_later : (name : Identifier) (o : Option (List plain.Expression)) → later_pieces (named_of name o) ≡ named_parts o
 named_later name None = refl
@@ -325,8 +332,8 @@ named_later name (Some es) = refl
 abbrev pub AfterPrimary : List Token → Type 0
 AfterPrimary = Ends (by_mark after_primary)
 
-module _ (most : ℕ) (inner : Family plain.Expression) (exact : Exact most 0 inner (Said FitsExpression expression_pieces) (Ends (by_mark after_expression))) where
-  pub arguments_said : (Stops : List Token → Type 0) → Exact most 0 (λ room. read.arguments (inner room)) (Said FitExpressions closed_arguments) Stops
+module _ (most : ℕ) (inner : Family plain.Expression) (exact : ExactWithin most 0 inner (Said FitsExpression expression_pieces) (Ends (by_mark after_expression))) where
+  pub arguments_said : (Stops : List Token → Type 0) → ExactWithin most 0 (λ room. read.arguments (inner room)) (Said FitExpressions closed_arguments) Stops
   unfolding read.arguments
   arguments_said Stops = said-choice-any most 0 0 (mark symbol.RightParen) (kind.Symbol symbol.RightParen) (λ _ _. give []) (λ room. read.some_arguments (inner room)) (λ (_ : Unit {0}). []) (λ _. Unit {0}) (λ _. [])
       SomeFit FitExpressions closed_arguments Stops Stops (mark-kind symbol.RightParen) (λ _. formed-give most 0 [] Stops) (exact_some_arguments most inner exact Stops) (omega arith)
@@ -336,7 +343,7 @@ module _ (most : ℕ) (inner : Family plain.Expression) (exact : Exact most 0 in
       split [] fits = inl (tt, refl, tt)
       split (e ∷ es) fits = inr (tt, fits)
 
-  pub named_said : (name : Identifier) → Exact most 0 (λ room. read.named (inner room) name) (Formed (named_of name) named_fits named_parts) AfterPrimary
+  pub named_said : (name : Identifier) → ExactWithin most 0 (λ room. read.named (inner room) name) (Formed (named_of name) named_fits named_parts) AfterPrimary
   unfolding read.named
   named_said name = formed-of most 0 (λ room. read.named (inner room) name) (IsNamedBy name) later_pieces (named_of name) named_fits named_parts AfterPrimary
       (said-choice-any most 0 0 (mark symbol.LeftParen) (kind.Symbol symbol.LeftParen) (λ _ room. made (λ es. plain.Call name (to_expressions es)) (read.arguments (inner room))) (λ _. give (plain.Variable name))
@@ -354,18 +361,18 @@ module _ (most : ℕ) (inner : Family plain.Expression) (exact : Exact most 0 in
       split : (p : plain.Primary) → IsNamedBy name p → ((es : List plain.Expression) × (p ≡ plain.Call name (to_expressions es)) × FitExpressions es) ⊎ (p ≡ plain.Variable name)
       split p n = by_option p n.0 n.1 n.2
 
-  pub tuple_said : (name : Identifier) (Stops : List Token → Type 0) → Exact most 0 (λ room. read.tuple (inner room) name) (Formed (λ es. plain.Make name (to_expressions es)) SomeFit (λ es. mark_piece symbol.LeftParen ∷ closed_arguments es)) Stops
+  pub tuple_said : (name : Identifier) (Stops : List Token → Type 0) → ExactWithin most 0 (λ room. read.tuple (inner room) name) (Formed (λ es. plain.Make name (to_expressions es)) SomeFit (λ es. mark_piece symbol.LeftParen ∷ closed_arguments es)) Stops
   unfolding read.tuple
   tuple_said name Stops = formed-behind most 0 0 (mark symbol.LeftParen) (kind.Symbol symbol.LeftParen) (λ room. made (λ es. plain.Make name (to_expressions es)) (read.some_arguments (inner room))) (λ es. plain.Make name (to_expressions es)) SomeFit closed_arguments Stops
       (mark-kind symbol.LeftParen) (at_0 (kind.Symbol symbol.LeftParen)) refl
       (formed-made most 0 (λ es. plain.Make name (to_expressions es)) (λ room. read.some_arguments (inner room)) SomeFit closed_arguments Stops (exact_some_arguments most inner exact Stops)) (omega arith)
 
-  pub closed_said : (Stops : List Token → Type 0) → Exact most 0 (λ room. read.closed (inner room)) (Said FitsExpression then_paren) Stops
+  pub closed_said : (Stops : List Token → Type 0) → ExactWithin most 0 (λ room. read.closed (inner room)) (Said FitsExpression then_paren) Stops
   unfolding read.closed
   closed_said Stops = said-before most 0 (mark symbol.RightParen) (kind.Symbol symbol.RightParen) inner FitsExpression expression_pieces (Ends (by_mark after_expression)) Stops (mark-kind symbol.RightParen) (at_0 (kind.Symbol symbol.RightParen)) refl exact
       (λ token rest is. ends_at after_expression token rest (kind.Symbol symbol.RightParen) is refl)
 
-  pub length_said : (at : ℕ) (Stops : List Token → Type 0) → Exact most 0 (λ room. read.length_of (inner room) at) (Formed (λ e. plain.Length e at) FitsExpression (λ e. mark_piece symbol.LeftParen ∷ then_paren e)) Stops
+  pub length_said : (at : ℕ) (Stops : List Token → Type 0) → ExactWithin most 0 (λ room. read.length_of (inner room) at) (Formed (λ e. plain.Length e at) FitsExpression (λ e. mark_piece symbol.LeftParen ∷ then_paren e)) Stops
   unfolding read.length_of
   length_said at Stops = formed-behind most 0 0 (mark symbol.LeftParen) (kind.Symbol symbol.LeftParen) (λ room. made (λ e. plain.Length e at) (read.closed (inner room))) (λ e. plain.Length e at) FitsExpression then_paren Stops
       (mark-kind symbol.LeftParen) (at_0 (kind.Symbol symbol.LeftParen)) refl (formed-made most 0 (λ e. plain.Length e at) (λ room. read.closed (inner room)) FitsExpression then_paren Stops (closed_said Stops)) (omega arith)
@@ -376,7 +383,7 @@ module _ (most : ℕ) (inner : Family plain.Expression) (exact : Exact most 0 in
   abbrev pub new_parts : Element × (plain.Expression × plain.Expression) → List Piece
   new_parts z = spelling.element_piece z.0 ∷ [] ++ (mark_piece symbol.LeftBracket ∷ new_pieces z.1.0 z.1.1)
 
-  pub new_said : (at : ℕ) (Stops : List Token → Type 0) → Exact most 0 (λ room. read.new_array (inner room) at) (Formed (λ z. plain.New z.0 z.1.0 z.1.1 at) new_fits new_parts) Stops
+  pub new_said : (at : ℕ) (Stops : List Token → Type 0) → ExactWithin most 0 (λ room. read.new_array (inner room) at) (Formed (λ z. plain.New z.0 z.1.0 z.1.1 at) new_fits new_parts) Stops
   unfolding read.new_array
   new_said at Stops = formed-field most 0 0 (λ _. element) (λ t room. behind (mark symbol.LeftBracket) (in_turn (inner room) (λ len. behind (mark symbol.RightBracket) (behind (mark symbol.LeftParen) (made (λ fill. plain.New t len fill at) (read.closed (inner room)))))))
       (λ t z. plain.New t z.0 z.1 at) Any (λ z. FitsExpression z.0 × FitsExpression z.1) (λ t. spelling.element_piece t ∷ []) (λ z. mark_piece symbol.LeftBracket ∷ new_pieces z.0 z.1) (λ _. Unit {0}) Stops (exact-element most 0 (λ _. Unit {0}))

@@ -9,9 +9,11 @@ use Rattle.xanadu_lexer.specs.declared.token.TokenKind.TheVariants as kind
 use Rattle.xanadu_parser.specs.Tables.{is_keyword, is_symbol, keyword, mark, by_symbol, symbol_among, lower, as_lower, upper, as_upper, number, as_number}
 use Rattle.xanadu_parser.specs.Tables as table
 use Rattle.xanadu_tree.specs.Pieces.{Piece, Spelled}
-use Rattle.xanadu_parser.specs.Reader.{Table, eat}
-use Rattle.xanadu_parser.proofs.Exact.{eat-none, eat-other}
+use Rattle.xan_read.specs.Symbols.{eat}
+use Rattle.xan_read.proofs.TableLaws.{eat-none, eat-other}
+use Rattle.xanadu_parser.specs.Reader.{Table}
 use Rattle.xanadu_parser.proofs.Saying.{Ends}
+use Rattle.xanadu_parser.proofs.MarkSets.{among}
 
 -- a mark that passes the test
 abbrev pub by_mark : (Symbol → Bool) → TokenKind → Bool
@@ -85,15 +87,17 @@ module _ (test : Symbol → Bool) where
 
 -- ---- the tests
 
+abbrev pub term_marks : List Symbol
+term_marks = symbol.Star ∷ []
+
 abbrev pub after_term : Symbol → Bool
-after_term symbol.Star = true
-after_term _ = false
+after_term = among term_marks
+
+abbrev pub index_marks : List Symbol
+index_marks = symbol.Star ∷ symbol.Plus ∷ symbol.Minus ∷ []
 
 abbrev pub after_index : Symbol → Bool
-after_index symbol.Star = true
-after_index symbol.Plus = true
-after_index symbol.Minus = true
-after_index _ = false
+after_index = among index_marks
 
 -- a table does not take the first token of a text
 pub not_taken : {A : Type 0} (table : Table A) (piece : Piece) (pieces : List Piece) (text rest : List Token) → ((token : Token) → token.kind ≡ piece.kind → table token ≡ None) → Spelled (piece ∷ pieces) text

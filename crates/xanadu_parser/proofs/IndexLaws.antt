@@ -22,15 +22,18 @@ use Rattle.xanadu_tree.specs.PlainTree as plain
 use Rattle.xanadu_tree.specs.Pieces.{Piece, IsPiece, Spelled, placed, word, mark as mark_piece, mark_at, behind_commas, with_commas, optional}
 use Rattle.xanadu_tree.specs.Spelling as spelling
 use Rattle.xanadu_tree.specs.Written.{PlacedIndex, PlacedRelation, PlacedQuantifier, IsQuantifier, IsSome, WhereGiven}
-use Rattle.xanadu_parser.specs.Reader.{eat, take, give, made, in_turn, behind}
+use Rattle.xan_read.specs.Combinators.{give, made, in_turn}
+use Rattle.xan_read.specs.Symbols.{eat, take, behind}
+use Rattle.xan_read.specs.Rooms.{ExactWithin}
+use Rattle.xan_read.proofs.TableLaws.{eat-other}
 use Rattle.xanadu_parser.specs.Tables.{mark, keyword, lower, number, symbol_among, is_symbol}
 use Rattle.xanadu_parser.specs.Tables as table
 use Rattle.xanadu_parser.specs.Index as read
-use Rattle.xanadu_parser.proofs.Exact.{Exact, eat-other}
 use Rattle.xanadu_parser.proofs.Saying.{Said, Formed, Any, Ends, spelled-first, spelled-none, said-take, formed-give, formed-made, formed-field, formed-behind, said-of, said-choice, said-choice-any, formed-of, formed-map, said-give, said-forget, ends-mark, IsTable}
 use Rattle.xanadu_parser.proofs.SayingLists.{said-repeated, said-separated}
 use Rattle.xanadu_parser.proofs.Taken.{at_0, mark-kind, mark-table, keyword-kind, lower-table, number-table, among-table, some_same}
-use Rattle.xanadu_parser.proofs.Follows.{by_mark, no_mark, no_among, fewer, ends_at, number-none, mark-none, keyword-none, after_term, after_index, not_taken}
+use Rattle.xanadu_parser.proofs.Follows.{by_mark, no_mark, no_among, fewer, ends_at, number-none, mark-none, keyword-none, term_marks, index_marks, after_term, after_index, not_taken}
+use Rattle.xanadu_parser.proofs.MarkSets.{among, not_among, not_within}
 
 -- ---- terms
 
@@ -56,10 +59,9 @@ scale_behind n at None = refl
 scale_behind n at (Some x) = refl
 
 after_term_star : (s : Symbol) → after_term s ≡ false → is_symbol symbol.Star (kind.Symbol s) ≡ false
-after_term_star symbol.Star e = absurd cc
-after_term_star _ e = refl
+after_term_star = not_among term_marks symbol.Star refl
 
-exact_scaled : (most slack : ℕ) (n : ℤ) (at : ℕ) → Exact most slack (λ _. read.scaled n at) (Formed (scaled_of n at) Any scale_pieces) (Ends (by_mark after_term))
+exact_scaled : (most slack : ℕ) (n : ℤ) (at : ℕ) → ExactWithin most slack (λ _. read.scaled n at) (Formed (scaled_of n at) Any scale_pieces) (Ends (by_mark after_term))
 unfolding read.scaled
 exact_scaled most slack n at = formed-of most slack (λ _. read.scaled n at) (IsScaled n at) behind_number (scaled_of n at) Any scale_pieces (Ends (by_mark after_term))
     (said-choice-any most slack slack (mark symbol.Star) (kind.Symbol symbol.Star) (λ _ _. made (λ x. index_term.Product n x at) (take lower)) (λ _. give (index_term.Number n at))
@@ -84,7 +86,7 @@ exact_scaled most slack n at = formed-of most slack (λ _. read.scaled n at) (Is
 abbrev IsVariable : IndexTerm → Type 0
 IsVariable t = (x : Identifier) × (t ≡ index_term.Variable x)
 
-pub exact-term : (most slack : ℕ) → Exact most slack (λ _. read.term) (Said Any spelling.index_term_pieces) (Ends (by_mark after_term))
+pub exact-term : (most slack : ℕ) → ExactWithin most slack (λ _. read.term) (Said Any spelling.index_term_pieces) (Ends (by_mark after_term))
 unfolding read.term
 exact-term most slack = said-choice most slack slack number (λ n _. read.scaled n.0 n.1) (λ _. made index_term.Variable (take lower)) (λ n. scaled_of n.0 n.1) Any (λ n. placed (kind.Num n.0) n.1) Any scale_pieces
     IsVariable Any spelling.index_term_pieces (Ends (by_mark after_term)) (Ends (by_mark after_term)) number-table (λ n. exact_scaled most slack n.0 n.1)
@@ -126,15 +128,14 @@ sign_stops sign_of.Plus = refl
 sign_stops sign_of.Minus = refl
 
 after_index_term : (s : Symbol) → after_index s ≡ false → after_term s ≡ false
-after_index_term symbol.Star e = absurd cc
-after_index_term _ e = refl
+after_index_term = not_within index_marks term_marks refl
 
 after_index_sign : (s : Symbol) → after_index s ≡ false → table.sign s ≡ None
 after_index_sign symbol.Plus e = absurd cc
 after_index_sign symbol.Minus e = absurd cc
 after_index_sign _ e = refl
 
-exact_terms : (most slack : ℕ) → Exact most slack (λ _. read.terms) (Formed {Z = List (Sign × IndexTerm)} (λ ts. ts) (λ _. Unit {0}) spelling.signed_pieces) (Ends (by_mark after_index))
+exact_terms : (most slack : ℕ) → ExactWithin most slack (λ _. read.terms) (Formed {Z = List (Sign × IndexTerm)} (λ ts. ts) (λ _. Unit {0}) spelling.signed_pieces) (Ends (by_mark after_index))
 unfolding read.terms
 exact_terms most slack = said-repeated most slack slack (symbol_among table.sign) (λ s _. read.signed s) (λ s. Formed (λ t. (s.0, t)) Any spelling.index_term_pieces) (Ends (by_mark after_term)) (Ends (by_mark after_index))
     (λ _. Unit {0}) (λ x. mark_piece (spelling.sign_symbol x.0)) (λ x. spelling.index_term_pieces x.1) (λ _. Unit {0}) spelling.signed_pieces
@@ -162,7 +163,7 @@ behind_term [] text rest u h after = subst (λ (l : List Token). Ends (by_mark a
 behind_term (t ∷ ts) text rest u h after = ends-mark (by_mark after_term) (mark_piece (spelling.sign_symbol t.0)) (spelling.index_term_pieces t.1 ++ spelling.signed_pieces ts) text rest h (sign_stops t.0)
 
 module _ (make : IndexTerm → List (Sign × IndexTerm) → plain.IndexExpression) where
-  exact_sum : (most slack : ℕ) → Exact most slack (λ _. in_turn read.term (λ first. made (make first) read.terms)) (Formed {Z = IndexTerm × List (Sign × IndexTerm)} (λ z. make z.0 z.1) (λ _. Unit {0} × Unit {0}) sum_pieces) (Ends (by_mark after_index))
+  exact_sum : (most slack : ℕ) → ExactWithin most slack (λ _. in_turn read.term (λ first. made (make first) read.terms)) (Formed {Z = IndexTerm × List (Sign × IndexTerm)} (λ z. make z.0 z.1) (λ _. Unit {0} × Unit {0}) sum_pieces) (Ends (by_mark after_index))
   exact_sum most slack = formed-field most slack slack (λ _. read.term) (λ first _. made (make first) read.terms) make Any (λ _. Unit {0}) spelling.index_term_pieces spelling.signed_pieces
       (Ends (by_mark after_term)) (Ends (by_mark after_index)) (exact-term most slack)
       (λ first. formed-map most slack (make first) (λ _. read.terms) (λ ts. ts) (λ _. Unit {0}) spelling.signed_pieces (Ends (by_mark after_index)) (exact_terms most slack))
@@ -171,7 +172,7 @@ module _ (make : IndexTerm → List (Sign × IndexTerm) → plain.IndexExpressio
 abbrev IsPlain : plain.IndexExpression → Type 0
 IsPlain e = (z : IndexTerm × List (Sign × IndexTerm)) × (e ≡ read.plain_sum z.0 z.1)
 
-pub exact-index : (most slack : ℕ) → Exact most slack (λ _. read.index) (Said PlacedIndex spelling.index_pieces) (Ends (by_mark after_index))
+pub exact-index : (most slack : ℕ) → ExactWithin most slack (λ _. read.index) (Said PlacedIndex spelling.index_pieces) (Ends (by_mark after_index))
 unfolding read.index
 exact-index most slack = said-choice most slack slack (mark symbol.Minus) (λ at _. in_turn read.term (λ first. made (read.negated_sum at first) read.terms)) (λ _. in_turn read.term (λ first. made (read.plain_sum first) read.terms))
     (λ at z. read.negated_sum at z.0 z.1) Any (λ at. placed (kind.Symbol symbol.Minus) at) (λ _. Unit {0} × Unit {0}) sum_pieces IsPlain PlacedIndex spelling.index_pieces
@@ -223,17 +224,17 @@ relation_stops between_of.Equal = refl
 relation-table : IsTable (symbol_among table.index_relation) (λ _. Unit {0}) (λ x. placed (kind.Symbol (spelling.index_relation_symbol x.0)) x.1)
 relation-table = among-table table.index_relation (λ _. Unit {0}) spelling.index_relation_symbol relation_into relation_back between_of.Less tt
 
-exact_between : (most slack : ℕ) (Stops : List Token → Type 0) → Exact most slack (λ _. read.between) (Said (λ _. Unit {0}) (λ r. mark_piece (spelling.index_relation_symbol r) ∷ [])) Stops
+exact_between : (most slack : ℕ) (Stops : List Token → Type 0) → ExactWithin most slack (λ _. read.between) (Said (λ _. Unit {0}) (λ r. mark_piece (spelling.index_relation_symbol r) ∷ [])) Stops
 unfolding read.between
 exact_between most slack Stops = said-forget most slack (symbol_among table.index_relation) (λ r. r.0) (λ _. Unit {0}) (λ r. kind.Symbol (spelling.index_relation_symbol r)) Stops
     (λ token a e. (tt, (relation-table.into token a e).1.kind))
     (λ token r u e. ((r, token.at), relation-table.back token (r, token.at) tt (record { kind = e; at = refl }), refl))
-    (record { value = relation-table.value; text = relation-table.token ∷ []; is = record { token = relation-table.token; is = relation-table.is; parts = refl } })
+    (record { value = relation-table.value; text = relation-table.token ∷ []; is = record { symbol = relation-table.token; is = relation-table.is; parts = refl } })
 
 abbrev relation_parts : plain.IndexExpression × (IndexRelation × plain.IndexExpression) → List Piece
 relation_parts z = spelling.index_pieces z.0 ++ (mark_piece (spelling.index_relation_symbol z.1.0) ∷ [] ++ spelling.index_pieces z.1.1)
 
-pub exact-relation : (most slack : ℕ) → Exact most slack (λ _. read.relation) (Said PlacedRelation spelling.relation_pieces) (Ends (by_mark after_index))
+pub exact-relation : (most slack : ℕ) → ExactWithin most slack (λ _. read.relation) (Said PlacedRelation spelling.relation_pieces) (Ends (by_mark after_index))
 unfolding read.relation
 exact-relation most slack = said-of most slack (λ _. read.relation) (λ z. read.relation_of z.0 z.1.0 z.1.1) (λ z. PlacedIndex z.0 × (Unit {0} × PlacedIndex z.1.1)) relation_parts PlacedRelation spelling.relation_pieces
     (Ends (by_mark after_index)) (Ends (by_mark after_index))
@@ -247,27 +248,20 @@ exact-relation most slack = said-of most slack (λ _. read.relation) (λ z. read
     (λ z fits. (fits.0, fits.1.1)) (λ z. refl) (λ r fits. ((r.left, (r.relation, r.right)), refl, (fits.0, (tt, fits.1)))) (λ _ h. h)
 
 -- what follows a list of relations: no mark of an index, and no comma
+abbrev pub relations_marks : List Symbol
+relations_marks = symbol.Comma ∷ symbol.Bar ∷ index_marks
+
 abbrev pub after_relations : Symbol → Bool
-after_relations symbol.Star = true
-after_relations symbol.Plus = true
-after_relations symbol.Minus = true
-after_relations symbol.Comma = true
-after_relations symbol.Bar = true
-after_relations _ = false
+after_relations = among relations_marks
 
 relations_index : (s : Symbol) → after_relations s ≡ false → after_index s ≡ false
-relations_index symbol.Star e = absurd cc
-relations_index symbol.Plus e = absurd cc
-relations_index symbol.Minus e = absurd cc
-relations_index _ e = refl
+relations_index = not_within relations_marks index_marks refl
 
 relations_comma : (s : Symbol) → after_relations s ≡ false → is_symbol symbol.Comma (kind.Symbol s) ≡ false
-relations_comma symbol.Comma e = absurd cc
-relations_comma _ e = refl
+relations_comma = not_among relations_marks symbol.Comma refl
 
 relations_bar : (s : Symbol) → after_relations s ≡ false → is_symbol symbol.Bar (kind.Symbol s) ≡ false
-relations_bar symbol.Bar e = absurd cc
-relations_bar _ e = refl
+relations_bar = not_among relations_marks symbol.Bar refl
 
 pub all_parts : {X : Type 0} (P : X → Type 0) (x : X) (xs : List X) → All P (x ∷ xs) → P x × All P xs
 all_parts P x xs h = (h 0 x (omega arith), λ k d less. h (suc k) d (omega arith))
@@ -275,7 +269,7 @@ all_parts P x xs h = (h 0 x (omega arith), λ k d less. h (suc k) d (omega arith
 abbrev listed_relations : plain.Relation × List plain.Relation → List Piece
 listed_relations q = spelling.relation_pieces q.0 ++ behind_commas spelling.relation_pieces q.1
 
-exact_relations : (most slack : ℕ) → Exact most slack (λ _. read.relations) (Formed {Z = plain.Relation × List plain.Relation} (λ q. (q.0 ∷ []) ++ q.1) (λ q. PlacedRelation q.0 × All PlacedRelation q.1) listed_relations) (Ends (by_mark after_relations))
+exact_relations : (most slack : ℕ) → ExactWithin most slack (λ _. read.relations) (Formed {Z = plain.Relation × List plain.Relation} (λ q. (q.0 ∷ []) ++ q.1) (λ q. PlacedRelation q.0 × All PlacedRelation q.1) listed_relations) (Ends (by_mark after_relations))
 unfolding read.relations
 exact_relations most slack = said-separated most slack (mark symbol.Comma) (kind.Symbol symbol.Comma) (λ _. read.relation) PlacedRelation spelling.relation_pieces (All PlacedRelation) (behind_commas spelling.relation_pieces)
     (Ends (by_mark after_index)) (Ends (by_mark after_relations)) (mark-kind symbol.Comma) (exact-relation most slack)
@@ -283,7 +277,7 @@ exact_relations most slack = said-separated most slack (mark symbol.Comma) (kind
     (λ rest h. (fewer after_relations after_index relations_index rest h, no_mark after_relations symbol.Comma relations_comma rest h))
     refl (λ x xs. refl) (All-nil PlacedRelation) (λ x xs fits others. All-cons PlacedRelation x xs fits others) (all_parts PlacedRelation)
 
-pub exact-assumed : (most slack : ℕ) → Exact most slack (λ _. read.assumed) (Said (All PlacedRelation) spelling.relations_pieces) (Ends (by_mark after_relations))
+pub exact-assumed : (most slack : ℕ) → ExactWithin most slack (λ _. read.assumed) (Said (All PlacedRelation) spelling.relations_pieces) (Ends (by_mark after_relations))
 unfolding read.assumed
 exact-assumed most slack = said-choice-any most slack slack (mark symbol.Bar) (kind.Symbol symbol.Bar) (λ _ _. read.relations) (λ _. give []) (λ q. (q.0 ∷ []) ++ q.1) (λ q. PlacedRelation q.0 × All PlacedRelation q.1) listed_relations
     (λ rs. rs ≡ []) (All PlacedRelation) spelling.relations_pieces (Ends (by_mark after_relations)) (Ends (by_mark after_relations)) (mark-kind symbol.Bar)
@@ -307,14 +301,14 @@ sort_kind s = kind.Keyword (spelling.sort_keyword s)
 nat_taken : (token : Token) (s : Sort) → s ≡ sort_of.Nat → token.kind ≡ sort_kind s → (at : ℕ) × (keyword word_of.Nat token ≡ Some at) × (s ≡ sort_of.Nat)
 nat_taken token s e is = ((keyword-kind word_of.Nat).value token, (keyword-kind word_of.Nat).back token (is ∙ ap sort_kind e), e)
 
-exact_sort : (most slack : ℕ) (Stops : List Token → Type 0) → Exact most slack (λ _. read.sort) (Said (λ _. Unit {0}) (λ s. word (spelling.sort_keyword s) ∷ [])) Stops
+exact_sort : (most slack : ℕ) (Stops : List Token → Type 0) → ExactWithin most slack (λ _. read.sort) (Said (λ _. Unit {0}) (λ s. word (spelling.sort_keyword s) ∷ [])) Stops
 unfolding read.sort
 exact_sort most slack Stops = said-choice-any most slack slack (keyword word_of.Int) (kind.Keyword word_of.Int) (λ _ _. give sort_of.Int) (λ _. made (λ _. sort_of.Nat) (take (keyword word_of.Nat))) (λ (_ : Unit {0}). sort_of.Int) (λ _. Unit {0}) (λ _. [])
     (λ s. s ≡ sort_of.Nat) (λ _. Unit {0}) (λ s. word (spelling.sort_keyword s) ∷ []) (λ _. Unit {0}) Stops (keyword-kind word_of.Int)
     (λ _. formed-give most slack sort_of.Int Stops)
     (said-forget most slack (keyword word_of.Nat) (λ _. sort_of.Nat) (λ s. s ≡ sort_of.Nat) sort_kind (λ _. Unit {0})
     (λ token a e. (refl, (keyword-kind word_of.Nat).into token a e)) nat_taken
-    (record { value = (keyword-kind word_of.Nat).value (at_0 (kind.Keyword word_of.Nat)); text = at_0 (kind.Keyword word_of.Nat) ∷ []; is = record { token = at_0 (kind.Keyword word_of.Nat); is = (keyword-kind word_of.Nat).back (at_0 (kind.Keyword word_of.Nat)) refl; parts = refl } }))
+    (record { value = (keyword-kind word_of.Nat).value (at_0 (kind.Keyword word_of.Nat)); text = at_0 (kind.Keyword word_of.Nat) ∷ []; is = record { symbol = at_0 (kind.Keyword word_of.Nat); is = (keyword-kind word_of.Nat).back (at_0 (kind.Keyword word_of.Nat)) refl; parts = refl } }))
     (omega arith) (λ _ _. tt) (λ _. refl) (λ _ _. tt) split stops
   where
     split : (s : Sort) → Unit {0} → ((z : Unit {0}) × (s ≡ sort_of.Int) × Unit {0}) ⊎ (s ≡ sort_of.Nat)
@@ -326,7 +320,7 @@ exact_sort most slack Stops = said-choice-any most slack slack (keyword word_of.
         let f = spelled-first (word (spelling.sort_keyword s)) [] text h in
         (tt, ap (λ (l : List Token). eat (keyword word_of.Int) (l ++ rest)) f.parts ∙ eat-other (keyword word_of.Int) f.token (f.back ++ rest) (keyword-none word_of.Int f.token (kind.Keyword word_of.Nat) (f.is.kind ∙ ap sort_kind e) refl))
 
-exact_binder : (most slack : ℕ) (Stops : List Token → Type 0) → Exact most slack (λ _. read.binder) (Said (λ _. Unit {0}) spelling.binder_pieces) Stops
+exact_binder : (most slack : ℕ) (Stops : List Token → Type 0) → ExactWithin most slack (λ _. read.binder) (Said (λ _. Unit {0}) spelling.binder_pieces) Stops
 unfolding read.binder
 exact_binder most slack Stops = said-of most slack (λ _. read.binder) (λ z. read.binder_of z.0 z.1) (λ _. Unit {0} × Unit {0}) (λ z. spelling.lower z.0 ∷ [] ++ mark_piece symbol.Colon ∷ word (spelling.sort_keyword z.1) ∷ []) (λ _. Unit {0}) spelling.binder_pieces Stops Stops
     (formed-field most slack slack (λ _. take lower) (λ name _. behind (mark symbol.Colon) (made (read.binder_of name) read.sort)) read.binder_of Any (λ _. Unit {0}) (λ x. spelling.lower x ∷ []) (λ s. mark_piece symbol.Colon ∷ word (spelling.sort_keyword s) ∷ [])
@@ -336,13 +330,14 @@ exact_binder most slack Stops = said-of most slack (λ _. read.binder) (λ z. re
     (λ _ _ _. omega arith) (λ _ _ _ _ _ _. tt))
     (λ _ _. tt) (λ z. refl) (λ b _. ((b.name, b.sort), refl, (tt, tt))) (λ _ h. h)
 
+abbrev pub comma_marks : List Symbol
+comma_marks = symbol.Comma ∷ []
+
 abbrev pub no_comma : Symbol → Bool
-no_comma symbol.Comma = true
-no_comma _ = false
+no_comma = among comma_marks
 
 pub no_comma_comma : (s : Symbol) → no_comma s ≡ false → is_symbol symbol.Comma (kind.Symbol s) ≡ false
-no_comma_comma symbol.Comma e = absurd cc
-no_comma_comma _ e = refl
+no_comma_comma = not_among comma_marks symbol.Comma refl
 
 abbrev AreBinders : List Binder → Type 0
 AreBinders bs = IsSome bs
@@ -351,7 +346,7 @@ binders_split : (bs : List Binder) → IsSome bs → (q : Binder × List Binder)
 binders_split [] some = absurd some
 binders_split (b ∷ bs) some = ((b, bs), refl, (tt, tt))
 
-exact_binders : (most slack : ℕ) → Exact most slack (λ _. read.binders) (Said IsSome (with_commas spelling.binder_pieces)) (Ends (by_mark no_comma))
+exact_binders : (most slack : ℕ) → ExactWithin most slack (λ _. read.binders) (Said IsSome (with_commas spelling.binder_pieces)) (Ends (by_mark no_comma))
 unfolding read.binders
 exact_binders most slack = said-of most slack (λ _. read.binders) (λ (q : Binder × List Binder). (q.0 ∷ []) ++ q.1) (λ _. Unit {0} × Unit {0}) (λ q. spelling.binder_pieces q.0 ++ behind_commas spelling.binder_pieces q.1) IsSome (with_commas spelling.binder_pieces)
     (Ends (by_mark no_comma)) (Ends (by_mark no_comma))
@@ -371,7 +366,7 @@ quantified_parts z = with_commas spelling.binder_pieces z.0 ++ (spelling.relatio
 abbrev pub quantified_fits : List Binder × (List plain.Relation × Unit {0}) → Type 0
 quantified_fits z = IsSome z.0 × (All PlacedRelation z.1.0 × Unit {0})
 
-pub exact-quantified : (most slack at : ℕ) (Stops : List Token → Type 0) → Exact most slack (λ _. read.quantified at) (Formed (λ z. read.quantifier_of at z.0 z.1.0) quantified_fits quantified_parts) Stops
+pub exact-quantified : (most slack at : ℕ) (Stops : List Token → Type 0) → ExactWithin most slack (λ _. read.quantified at) (Formed (λ z. read.quantifier_of at z.0 z.1.0) quantified_fits quantified_parts) Stops
 unfolding read.quantified
 exact-quantified most slack at Stops = formed-field most slack slack (λ _. read.binders) (λ bs _. in_turn read.assumed (λ rs. behind (mark symbol.RightBrace) (give (read.quantifier_of at bs rs)))) (λ bs z. read.quantifier_of at bs z.0)
     IsSome (λ z. All PlacedRelation z.0 × Unit {0}) (with_commas spelling.binder_pieces) (λ z. spelling.relations_pieces z.0 ++ (mark_piece symbol.RightBrace ∷ [])) (Ends (by_mark no_comma)) Stops (exact_binders most slack)
@@ -387,18 +382,19 @@ exact-quantified most slack at Stops = formed-field most slack slack (λ _. read
     behind_binders (r ∷ rs) text rest h = ends-mark (by_mark no_comma) (mark_piece symbol.Bar) (with_commas spelling.relation_pieces (r ∷ rs) ++ (mark_piece symbol.RightBrace ∷ [])) text rest h refl
 
 -- no quantifier comes
+abbrev pub brace_marks : List Symbol
+brace_marks = symbol.LeftBrace ∷ []
+
 abbrev pub no_brace : Symbol → Bool
-no_brace symbol.LeftBrace = true
-no_brace _ = false
+no_brace = among brace_marks
 
 no_brace_brace : (s : Symbol) → no_brace s ≡ false → is_symbol symbol.LeftBrace (kind.Symbol s) ≡ false
-no_brace_brace symbol.LeftBrace e = absurd cc
-no_brace_brace _ e = refl
+no_brace_brace = not_among brace_marks symbol.LeftBrace refl
 
 abbrev pub MayBeQuantified : Option plain.Quantifier → Type 0
 MayBeQuantified o = WhereGiven IsQuantifier o × WhereGiven PlacedQuantifier o
 
-pub exact-quantifier : (most slack : ℕ) → Exact most slack (λ _. read.quantifier) (Said MayBeQuantified (optional spelling.quantifier_pieces)) (Ends (by_mark no_brace))
+pub exact-quantifier : (most slack : ℕ) → ExactWithin most slack (λ _. read.quantifier) (Said MayBeQuantified (optional spelling.quantifier_pieces)) (Ends (by_mark no_brace))
 unfolding read.quantifier
 exact-quantifier most slack = said-choice most slack slack (mark symbol.LeftBrace) (λ at _. made Some (read.quantified at)) (λ _. give None) (λ at z. Some (read.quantifier_of at z.0 z.1.0)) Any (λ at. placed (kind.Symbol symbol.LeftBrace) at) quantified_fits quantified_parts
     (λ o. o ≡ None) MayBeQuantified (optional spelling.quantifier_pieces) (Ends (by_mark no_brace)) (Ends (by_mark no_brace)) (mark-table symbol.LeftBrace)
@@ -432,6 +428,6 @@ no_index_mark s i others text rest other h = by_sign i.negative i.first i.rest i
 abbrev pub behind_brace : plain.Quantifier → List Piece
 behind_brace q = with_commas spelling.binder_pieces q.binders ++ (spelling.relations_pieces q.relations ++ (mark_piece symbol.RightBrace ∷ []))
 
-pub said-quantified : (most slack at : ℕ) (Stops : List Token → Type 0) → Exact most slack (λ _. read.quantified at) (Said (λ q. (q.at ≡ at) × IsQuantified q) behind_brace) Stops
+pub said-quantified : (most slack at : ℕ) (Stops : List Token → Type 0) → ExactWithin most slack (λ _. read.quantified at) (Said (λ q. (q.at ≡ at) × IsQuantified q) behind_brace) Stops
 said-quantified most slack at Stops = said-of most slack (λ _. read.quantified at) (λ z. read.quantifier_of at z.0 z.1.0) quantified_fits quantified_parts (λ q. (q.at ≡ at) × IsQuantified q) behind_brace Stops Stops (exact-quantified most slack at Stops)
     (λ z f. (refl, (f.0, f.1.0))) (λ z. refl) (λ q f. ((q.binders, (q.relations, tt)), ap (λ (n : ℕ). read.quantifier_of n q.binders q.relations) f.0, (f.1.0, (f.1.1, tt)))) (λ _ h. h)

@@ -14,11 +14,13 @@ use Rattle.xanadu_tree.specs.PlainTreeOf.{to_conjunctions, to_negations, to_comp
 use Rattle.xanadu_tree.specs.Pieces.{Piece, IsPiece, Spelled, placed, mark as mark_piece, mark_at}
 use Rattle.xanadu_tree.specs.Spelling.{op_symbol, rel_symbol, expression_pieces, conjunctions_pieces, conjunction_pieces, negations_pieces, negation_pieces, comparison_pieces, comparand_pieces, sum_pieces, addends_pieces, product_pieces, factors_pieces, unary_pieces, postfix_pieces, primary_pieces, indices_pieces}
 use Rattle.xanadu_tree.specs.Written.{IsAddition, IsMultiplication, IsExpression, AreConjunctions, IsConjunction, AreNegations, IsNegation, IsComparison, IsComparand, IsSum, AreAddends, IsProduct, AreFactors, IsUnary, IsPostfix, AreIndices, IsPrimary, PlacedPrimary, PlacedExpression, PlacedConjunctions, PlacedConjunction, PlacedNegations, PlacedNegation, PlacedComparison, PlacedComparand, PlacedSum, PlacedAddends, PlacedProduct, PlacedFactors, PlacedUnary, PlacedPostfix, PlacedIndices, primary_at, postfix_at, unary_at, product_at, sum_at, comparison_at, negation_at, conjunction_at}
-use Rattle.xanadu_parser.specs.Reader.{give, made, before}
+use Rattle.xan_read.specs.Combinators.{give, made}
+use Rattle.xan_read.specs.Symbols.{before}
+use Rattle.xan_read.specs.Rooms.{ExactWithin}
+use Rattle.xanadu_parser.specs.Reader.{Family}
 use Rattle.xanadu_parser.specs.Tables.{mark, symbol_among, is_symbol}
 use Rattle.xanadu_parser.specs.Tables as table
 use Rattle.xanadu_parser.specs.Expressions as read
-use Rattle.xanadu_parser.proofs.Exact.{Family, Exact}
 use Rattle.xanadu_parser.proofs.Deeper.{exact-none, exact-deeper}
 use Rattle.xanadu_parser.proofs.Saying.{Said, Formed, Ends, spelled-none, formed-made, formed-map, formed-field, said-of, said-choice-shown, said-before, said-give, said-fewer, ends-mark, IsTable}
 use Rattle.xanadu_parser.proofs.SayingLists.{said-repeated}
@@ -26,23 +28,19 @@ use Rattle.xanadu_parser.proofs.ChainLaws.{exact-chain, exact-marked}
 use Rattle.xanadu_parser.proofs.Taken.{at_0, mark-kind, mark-table, among-table, some_same}
 use Rattle.xanadu_parser.proofs.Follows.{by_mark, no_mark, no_among, fewer, ends_at, no_text}
 use Rattle.xanadu_parser.proofs.PrimaryLaws.{primary_said}
-use Rattle.xanadu_parser.proofs.ExpressionLaws.{FitsExpression, FitsPrimary, AfterPrimary, after_primary, after_postfix, after_product, after_sum, after_comparison, after_conjunction, after_expression, silent-whole, silent_postfix, silent_comparison}
+use Rattle.xanadu_parser.proofs.ExpressionLaws.{FitsExpression, FitsPrimary, AfterPrimary, primary_marks, postfix_marks, product_marks, sum_marks, comparison_marks, conjunction_marks, expression_marks, after_primary, after_postfix, after_product, after_sum, after_comparison, after_conjunction, after_expression, silent-whole, silent_postfix, silent_comparison}
+use Rattle.xanadu_parser.proofs.MarkSets.{not_among, not_within}
 
 -- ---- what may follow
 
 postfix_primary : (s : Symbol) → after_postfix s ≡ false → after_primary s ≡ false
-postfix_primary symbol.LeftParen e = absurd cc
-postfix_primary _ e = refl
+postfix_primary = not_within postfix_marks primary_marks refl
 
 postfix_bracket : (s : Symbol) → after_postfix s ≡ false → is_symbol symbol.LeftBracket (kind.Symbol s) ≡ false
-postfix_bracket symbol.LeftBracket e = absurd cc
-postfix_bracket _ e = refl
+postfix_bracket = not_among postfix_marks symbol.LeftBracket refl
 
 product_postfix : (s : Symbol) → after_product s ≡ false → after_postfix s ≡ false
-product_postfix symbol.Star e = refl
-product_postfix symbol.Slash e = refl
-product_postfix symbol.Percent e = refl
-product_postfix _ e = e
+product_postfix = not_within product_marks postfix_marks refl
 
 product_none : (s : Symbol) → after_product s ≡ false → table.product_operator s ≡ None
 product_none symbol.Star e = absurd cc
@@ -51,9 +49,7 @@ product_none symbol.Percent e = absurd cc
 product_none _ e = refl
 
 sum_product : (s : Symbol) → after_sum s ≡ false → after_product s ≡ false
-sum_product symbol.Plus e = refl
-sum_product symbol.Minus e = refl
-sum_product _ e = e
+sum_product = not_within sum_marks product_marks refl
 
 sum_none : (s : Symbol) → after_sum s ≡ false → table.sum_operator s ≡ None
 sum_none symbol.Plus e = absurd cc
@@ -61,13 +57,7 @@ sum_none symbol.Minus e = absurd cc
 sum_none _ e = refl
 
 comparison_sum : (s : Symbol) → after_comparison s ≡ false → after_sum s ≡ false
-comparison_sum symbol.Less e = refl
-comparison_sum symbol.LessEqual e = refl
-comparison_sum symbol.Greater e = refl
-comparison_sum symbol.GreaterEqual e = refl
-comparison_sum symbol.EqualEqual e = refl
-comparison_sum symbol.NotEqual e = refl
-comparison_sum _ e = e
+comparison_sum = not_within comparison_marks sum_marks refl
 
 comparison_none : (s : Symbol) → after_comparison s ≡ false → table.relation s ≡ None
 comparison_none symbol.Less e = absurd cc
@@ -79,20 +69,16 @@ comparison_none symbol.NotEqual e = absurd cc
 comparison_none _ e = refl
 
 conjunction_comparison : (s : Symbol) → after_conjunction s ≡ false → after_comparison s ≡ false
-conjunction_comparison symbol.And e = refl
-conjunction_comparison _ e = e
+conjunction_comparison = not_within conjunction_marks comparison_marks refl
 
 conjunction_and : (s : Symbol) → after_conjunction s ≡ false → is_symbol symbol.And (kind.Symbol s) ≡ false
-conjunction_and symbol.And e = absurd cc
-conjunction_and _ e = refl
+conjunction_and = not_among conjunction_marks symbol.And refl
 
 expression_conjunction : (s : Symbol) → after_expression s ≡ false → after_conjunction s ≡ false
-expression_conjunction symbol.Or e = refl
-expression_conjunction _ e = e
+expression_conjunction = not_within expression_marks conjunction_marks refl
 
 expression_or : (s : Symbol) → after_expression s ≡ false → is_symbol symbol.Or (kind.Symbol s) ≡ false
-expression_or symbol.Or e = absurd cc
-expression_or _ e = refl
+expression_or = not_among expression_marks symbol.Or refl
 
 -- ---- operators
 
@@ -250,9 +236,9 @@ behind_sum (Some c) text rest f h after = ends-mark (by_mark after_sum) (mark_pi
 abbrev in_brackets : plain.Expression × ℕ → List Piece
 in_brackets i = expression_pieces i.0 ++ (mark_piece symbol.RightBracket ∷ [])
 
-module _ (most : ℕ) (inner : Family plain.Expression) (exact : Exact most 0 inner (Said FitsExpression expression_pieces) (Ends (by_mark after_expression))) where
+module _ (most : ℕ) (inner : Family plain.Expression) (exact : ExactWithin most 0 inner (Said FitsExpression expression_pieces) (Ends (by_mark after_expression))) where
   -- indices, where texts have this slack
-  pub indices_said : (slack : ℕ) → slack ≤ 1 → Exact most slack (λ room. read.indices (inner room)) (Formed {Z = List (plain.Expression × ℕ)} (λ is. is) FitIndices (λ is. indices_pieces (to_indices is))) (Ends (by_mark after_postfix))
+  pub indices_said : (slack : ℕ) → slack ≤ 1 → ExactWithin most slack (λ room. read.indices (inner room)) (Formed {Z = List (plain.Expression × ℕ)} (λ is. is) FitIndices (λ is. indices_pieces (to_indices is))) (Ends (by_mark after_postfix))
   unfolding read.indices AreIndices PlacedIndices indices_pieces
   indices_said slack narrow = said-repeated most slack 0 (mark symbol.LeftBracket) (λ at room. made (λ e. (e, at)) (before (mark symbol.RightBracket) (inner room)))
       (λ at. Formed (λ e. (e, at)) FitsExpression (λ e. expression_pieces e ++ (mark_piece symbol.RightBracket ∷ []))) (λ _. Unit {0}) (Ends (by_mark after_postfix))
@@ -271,7 +257,7 @@ module _ (most : ℕ) (inner : Family plain.Expression) (exact : Exact most 0 in
       into token at i text e f = subst (λ (j : plain.Expression × ℕ). FitsExpression j.0 × IsPiece (mark_at symbol.LeftBracket j.1) token × Spelled (in_brackets j) text) (sym f.is)
           (f.fits, ((mark-table symbol.LeftBracket).into token at e).1, f.spelled)
 
-  postfix_said : Exact most 1 (λ room. read.postfix (inner room)) (Said FitsPostfix postfix_pieces) (Ends (by_mark after_postfix))
+  postfix_said : ExactWithin most 1 (λ room. read.postfix (inner room)) (Said FitsPostfix postfix_pieces) (Ends (by_mark after_postfix))
   unfolding read.postfix IsPostfix PlacedPostfix postfix_pieces
   postfix_said = said-of most 1 (λ room. read.postfix (inner room)) (λ (z : plain.Primary × List (plain.Expression × ℕ)). plain.PostfixOf z.0 (to_indices z.1) (primary_at z.0)) (λ z. FitsPrimary z.0 × FitIndices z.1) (λ z. primary_pieces z.0 ++ indices_pieces (to_indices z.1))
       FitsPostfix postfix_pieces (Ends (by_mark after_postfix)) (Ends (by_mark after_postfix))
@@ -288,7 +274,7 @@ module _ (most : ℕ) (inner : Family plain.Expression) (exact : Exact most 0 in
         ((f.0.0, f.1.1), (subst AreIndices (from_indices-is is) f.0.1, subst PlacedIndices (from_indices-is is) f.1.2)),
       )
 
-  unary_said : Exact most 1 (λ room. read.unary (inner room)) (Said FitsUnary unary_pieces) (Ends (by_mark after_postfix))
+  unary_said : ExactWithin most 1 (λ room. read.unary (inner room)) (Said FitsUnary unary_pieces) (Ends (by_mark after_postfix))
   unfolding read.unary IsUnary PlacedUnary unary_pieces
   unary_said = exact-marked most (λ room. read.postfix (inner room)) FitsPostfix postfix_pieces (Ends (by_mark after_postfix)) postfix_said symbol.Minus (λ at p. plain.UnaryOf true p at) (λ p. plain.UnaryOf false p (postfix_at p)) FitsUnary unary_pieces
       (λ at p f. (f.0, (tt, f.1))) (λ p f. (f.0, (refl, f.1))) (λ at p. refl) (λ p. refl) split
@@ -298,7 +284,7 @@ module _ (most : ℕ) (inner : Family plain.Expression) (exact : Exact most 0 in
       split (plain.UnaryOf true p at) f = inl (at, p, refl, tt, (f.0, f.1.1))
       split (plain.UnaryOf false p at) f = inr (p, ap (plain.UnaryOf false p) f.1.0, (f.0, f.1.1))
 
-  product_said : Exact most 1 (λ room. read.product (inner room)) (Said FitsProduct product_pieces) (Ends (by_mark after_product))
+  product_said : ExactWithin most 1 (λ room. read.product (inner room)) (Said FitsProduct product_pieces) (Ends (by_mark after_product))
   unfolding read.product read.operands IsProduct PlacedProduct product_pieces AreFactors PlacedFactors factors_pieces
   product_said = exact-chain most (λ room. read.unary (inner room)) FitsUnary unary_pieces after_postfix after_product unary_said (symbol_among table.product_operator) (λ o. IsMultiplication o.0) (λ o. placed (kind.Symbol (op_symbol o.0)) o.1) product-table
       (λ o u. (o.0, u, o.1)) (λ x. (x.0, x.2)) (λ x. x.1) (λ _ _. refl) (λ _ _. refl) (λ _. refl)
@@ -314,7 +300,7 @@ module _ (most : ℕ) (inner : Family plain.Expression) (exact : Exact most 0 in
         ((f.0.0, f.1.1), (subst AreFactors (from_factors-is us) f.0.1, subst PlacedFactors (from_factors-is us) f.1.2)),
       )
 
-  pub sum_said : Exact most 1 (λ room. read.sum (inner room)) (Said FitsSum sum_pieces) (Ends (by_mark after_sum))
+  pub sum_said : ExactWithin most 1 (λ room. read.sum (inner room)) (Said FitsSum sum_pieces) (Ends (by_mark after_sum))
   unfolding read.sum read.products IsSum PlacedSum sum_pieces AreAddends PlacedAddends addends_pieces
   sum_said = exact-chain most (λ room. read.product (inner room)) FitsProduct product_pieces after_product after_sum product_said (symbol_among table.sum_operator) (λ o. IsAddition o.0) (λ o. placed (kind.Symbol (op_symbol o.0)) o.1) sum-table
       (λ o u. (o.0, u, o.1)) (λ x. (x.0, x.2)) (λ x. x.1) (λ _ _. refl) (λ _ _. refl) (λ _. refl)
@@ -332,7 +318,7 @@ module _ (most : ℕ) (inner : Family plain.Expression) (exact : Exact most 0 in
 
   -- ---- comparisons
 
-  compared_said : Exact most 1 (λ room. read.compared (inner room)) (Said (λ o. IsComparand (to_comparand o) × PlacedComparand (to_comparand o)) (λ o. comparand_pieces (to_comparand o))) (Ends (by_mark after_comparison))
+  compared_said : ExactWithin most 1 (λ room. read.compared (inner room)) (Said (λ o. IsComparand (to_comparand o) × PlacedComparand (to_comparand o)) (λ o. comparand_pieces (to_comparand o))) (Ends (by_mark after_comparison))
   unfolding read.compared IsComparand PlacedComparand comparand_pieces
   compared_said = said-choice-shown most 1 1 (symbol_among table.relation) (λ r. kind.Symbol (rel_symbol r)) (λ _. Unit {0}) (λ a room. made Some (made (λ s. (a.0, s)) (read.sum (inner room)))) (λ _. give None) (λ r s. Some (r, s)) FitsSum sum_pieces
       (λ o. o ≡ None) (λ o. IsComparand (to_comparand o) × PlacedComparand (to_comparand o)) (λ o. comparand_pieces (to_comparand o)) (Ends (by_mark after_comparison)) (Ends (by_mark after_comparison))
@@ -349,7 +335,7 @@ module _ (most : ℕ) (inner : Family plain.Expression) (exact : Exact most 0 in
       split None f = inr refl
       split (Some c) f = inl (c.0, c.1, refl, tt, f)
 
-  comparison_said : Exact most 1 (λ room. read.comparison (inner room)) (Said FitsComparison comparison_pieces) (Ends (by_mark after_comparison))
+  comparison_said : ExactWithin most 1 (λ room. read.comparison (inner room)) (Said FitsComparison comparison_pieces) (Ends (by_mark after_comparison))
   unfolding read.comparison IsComparison PlacedComparison comparison_pieces
   comparison_said = said-of most 1 (λ room. read.comparison (inner room)) (λ (z : plain.Sum × Option (Rel × plain.Sum)). plain.ComparisonOf z.0 (to_comparand z.1) (sum_at z.0)) (λ z. FitsSum z.0 × (IsComparand (to_comparand z.1) × PlacedComparand (to_comparand z.1)))
       (λ z. sum_pieces z.0 ++ comparand_pieces (to_comparand z.1)) FitsComparison comparison_pieces (Ends (by_mark after_comparison)) (Ends (by_mark after_comparison))
@@ -369,7 +355,7 @@ module _ (most : ℕ) (inner : Family plain.Expression) (exact : Exact most 0 in
 
   -- ---- negations, conjunctions, expressions
 
-  negation_said : Exact most 1 (λ room. read.negation (inner room)) (Said FitsNegation negation_pieces) (Ends (by_mark after_comparison))
+  negation_said : ExactWithin most 1 (λ room. read.negation (inner room)) (Said FitsNegation negation_pieces) (Ends (by_mark after_comparison))
   unfolding read.negation IsNegation PlacedNegation negation_pieces
   negation_said = exact-marked most (λ room. read.comparison (inner room)) FitsComparison comparison_pieces (Ends (by_mark after_comparison)) comparison_said symbol.Not (λ at c. plain.NegationOf true c at) (λ c. plain.NegationOf false c (comparison_at c)) FitsNegation negation_pieces
       (λ at c f. (f.0, (tt, f.1))) (λ c f. (f.0, (refl, f.1))) (λ at c. refl) (λ c. refl) split
@@ -379,7 +365,7 @@ module _ (most : ℕ) (inner : Family plain.Expression) (exact : Exact most 0 in
       split (plain.NegationOf true c at) f = inl (at, c, refl, tt, (f.0, f.1.1))
       split (plain.NegationOf false c at) f = inr (c, ap (plain.NegationOf false c) f.1.0, (f.0, f.1.1))
 
-  conjunction_said : Exact most 1 (λ room. read.conjunction (inner room)) (Said FitsConjunction conjunction_pieces) (Ends (by_mark after_conjunction))
+  conjunction_said : ExactWithin most 1 (λ room. read.conjunction (inner room)) (Said FitsConjunction conjunction_pieces) (Ends (by_mark after_conjunction))
   unfolding read.conjunction read.negations IsConjunction PlacedConjunction conjunction_pieces AreNegations PlacedNegations negations_pieces
   conjunction_said = exact-chain most (λ room. read.negation (inner room)) FitsNegation negation_pieces after_comparison after_conjunction negation_said (mark symbol.And) (λ _. Unit {0}) (λ at. placed (kind.Symbol symbol.And) at) (mark-table symbol.And)
       (λ at n. (n, at)) (λ x. x.1) (λ x. x.0) (λ _ _. refl) (λ _ _. refl) (λ _. refl)
@@ -395,7 +381,7 @@ module _ (most : ℕ) (inner : Family plain.Expression) (exact : Exact most 0 in
         ((f.0.0, f.1.1), (subst AreNegations (from_negations-is ns) f.0.1, subst PlacedNegations (from_negations-is ns) f.1.2)),
       )
 
-  disjunction_said : Exact most 1 (λ room. read.disjunction (inner room)) (Said FitsExpression expression_pieces) (Ends (by_mark after_expression))
+  disjunction_said : ExactWithin most 1 (λ room. read.disjunction (inner room)) (Said FitsExpression expression_pieces) (Ends (by_mark after_expression))
   unfolding read.disjunction read.conjunctions IsExpression PlacedExpression expression_pieces AreConjunctions PlacedConjunctions conjunctions_pieces
   disjunction_said = exact-chain most (λ room. read.conjunction (inner room)) FitsConjunction conjunction_pieces after_conjunction after_expression conjunction_said (mark symbol.Or) (λ _. Unit {0}) (λ at. placed (kind.Symbol symbol.Or) at) (mark-table symbol.Or)
       (λ at c. (c, at)) (λ x. x.1) (λ x. x.0) (λ _ _. refl) (λ _ _. refl) (λ _. refl)
@@ -437,7 +423,7 @@ zero_said : Said FitsExpression expression_pieces zero_expression (at_0 (kind.Nu
 unfolding expression_pieces conjunction_pieces negation_pieces comparison_pieces sum_pieces product_pieces unary_pieces postfix_pieces primary_pieces indices_pieces factors_pieces addends_pieces comparand_pieces negations_pieces conjunctions_pieces
 zero_said = record { fits = zero_fits; spelled = (record { kind = refl; at = refl }, tt) }
 
-pub exact-expression : (most : ℕ) → Exact most 0 read.expression (Said FitsExpression expression_pieces) (Ends (by_mark after_expression))
+pub exact-expression : (most : ℕ) → ExactWithin most 0 read.expression (Said FitsExpression expression_pieces) (Ends (by_mark after_expression))
 unfolding read.expression
 exact-expression zero = exact-none read.expression (Said FitsExpression expression_pieces) (Ends (by_mark after_expression)) (record { value = zero_expression; text = at_0 (kind.Num (pos 0)) ∷ []; is = zero_said }) (λ tokens. refl)
 exact-expression (suc most) = exact-deeper most read.expression (λ room. read.disjunction (read.expression room)) (Said FitsExpression expression_pieces) (Ends (by_mark after_expression)) (disjunction_said most read.expression (exact-expression most))

@@ -3,10 +3,8 @@ pub mod ChainLaws
 pub mod DeclarationLaws
 pub mod Deeper
 pub mod Eating
-pub mod Exact
-pub mod ExactLists
-pub mod ExactUntil
 pub mod ExpressionLaws
+pub mod MarkSets
 pub mod Follows
 pub mod Groups
 pub mod IndexLaws

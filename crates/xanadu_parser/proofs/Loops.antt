@@ -4,7 +4,9 @@ use Rattle.std.proofs.lemmas.List.{map-append}
 use Rattle.xanadu_lexer.specs.declared.token.Token.{Token}
 use Rattle.xanadu_parser.specs.declared.stop.Stop.{Stop}
 use Rattle.xanadu_parser.specs.declared.stop.Stop.TheVariants as stop
-use Rattle.xanadu_parser.specs.Reader.{Read, Reader, Table, ◌>>=◌, eat, repeated_from, until_from}
+use Rattle.xan_read.specs.Reader.{◌>>=◌}
+use Rattle.xan_read.specs.Symbols.{eat, repeated_from, until_from}
+use Rattle.xanadu_parser.specs.Reader.{Read, Reader, Table}
 use Rattle.xanadu_parser.specs.Code.{Fails}
 
 -- one value more, as it is seen

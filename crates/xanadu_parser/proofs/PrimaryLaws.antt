@@ -12,10 +12,12 @@ use Rattle.xanadu_tree.specs.Pieces.{Piece, Spelled, placed, word_at, mark as ma
 use Rattle.xanadu_tree.specs.Spelling as spelling
 use Rattle.xanadu_tree.specs.Spelling.{expression_pieces, conjunction_pieces, negation_pieces, comparison_pieces, sum_pieces, product_pieces, unary_pieces, postfix_pieces, primary_pieces, indices_pieces, arguments_pieces, more_arguments_pieces}
 use Rattle.xanadu_tree.specs.Written.{AreExpressions, AreArguments, IsPrimary, PlacedExpressions, PlacedPrimary}
-use Rattle.xanadu_parser.specs.Reader.{Table, eat, take, give, made, in_turn, where_comes}
+use Rattle.xan_read.specs.Combinators.{give, made, in_turn}
+use Rattle.xan_read.specs.Symbols.{eat, take, where_comes}
+use Rattle.xan_read.specs.Rooms.{ExactWithin}
+use Rattle.xanadu_parser.specs.Reader.{Table, Family}
 use Rattle.xanadu_parser.specs.Tables.{mark, keyword, lower, upper, number, is_keyword, as_lower, as_upper, as_number}
 use Rattle.xanadu_parser.specs.Expressions as read
-use Rattle.xanadu_parser.proofs.Exact.{Family, Exact}
 use Rattle.xanadu_parser.proofs.Saying.{Said, Any, Ends, said-take, formed-give, formed-made, formed-field, said-of, said-choice}
 use Rattle.xanadu_parser.proofs.Taken.{mark-table, keyword-table, lower-table, upper-table, number-table}
 use Rattle.xanadu_parser.proofs.Follows.{by_mark, keyword-none, number-none, lower-none, upper-none, not_taken}
@@ -65,11 +67,11 @@ no_number : (p : plain.Primary) (at : ℕ) → 1 ≤ rank p → as_number at (fi
 no_number (plain.Number n b) at less = absurd (omega arith)
 no_number _ at less = refl
 
-module _ (most : ℕ) (inner : Family plain.Expression) (exact : Exact most 0 inner (Said FitsExpression expression_pieces) (Ends (by_mark after_expression))) where
+module _ (most : ℕ) (inner : Family plain.Expression) (exact : ExactWithin most 0 inner (Said FitsExpression expression_pieces) (Ends (by_mark after_expression))) where
   abbrev Group_ : Family plain.Primary
   Group_ room = in_turn (take (mark symbol.LeftParen)) (λ at. made (λ e. plain.Group e at) (read.closed (inner room)))
 
-  group_said : Exact most 1 Group_ (Said (From 7) primary_pieces) AfterPrimary
+  group_said : ExactWithin most 1 Group_ (Said (From 7) primary_pieces) AfterPrimary
   unfolding IsPrimary PlacedPrimary primary_pieces
   group_said = said-of most 1 Group_ (λ z. plain.Group z.1 z.0) (λ z. Unit {0} × FitsExpression z.1) (λ z. mark_at symbol.LeftParen z.0 ∷ [] ++ then_paren z.1) (From 7) primary_pieces AfterPrimary AfterPrimary
       (formed-field most 1 0 (λ _. take (mark symbol.LeftParen)) (λ at room. made (λ e. plain.Group e at) (read.closed (inner room))) (λ at e. plain.Group e at) Any FitsExpression (λ at. mark_at symbol.LeftParen at ∷ []) then_paren (λ _. Unit {0}) AfterPrimary
@@ -87,7 +89,7 @@ module _ (most : ℕ) (inner : Family plain.Expression) (exact : Exact most 0 in
   abbrev New_ : Family plain.Primary
   New_ room = where_comes (keyword word_of.New) (read.new_array (inner room)) (Group_ room)
 
-  new_or_later : Exact most 1 New_ (Said (From 6) primary_pieces) AfterPrimary
+  new_or_later : ExactWithin most 1 New_ (Said (From 6) primary_pieces) AfterPrimary
   unfolding IsPrimary PlacedPrimary primary_pieces
   new_or_later = said-choice most 1 0 (keyword word_of.New) (λ at room. read.new_array (inner room) at) Group_ (λ at z. plain.New z.0 z.1.0 z.1.1 at) Any (λ at. word_at word_of.New at) (new_fits most inner exact) (new_parts most inner exact)
       (From 7) (From 6) primary_pieces AfterPrimary AfterPrimary (keyword-table word_of.New) (λ at. new_said most inner exact at AfterPrimary) group_said (omega arith)
@@ -103,7 +105,7 @@ module _ (most : ℕ) (inner : Family plain.Expression) (exact : Exact most 0 in
   abbrev Len_ : Family plain.Primary
   Len_ room = where_comes (keyword word_of.Len) (read.length_of (inner room)) (New_ room)
 
-  len_or_later : Exact most 1 Len_ (Said (From 5) primary_pieces) AfterPrimary
+  len_or_later : ExactWithin most 1 Len_ (Said (From 5) primary_pieces) AfterPrimary
   unfolding IsPrimary PlacedPrimary primary_pieces
   len_or_later = said-choice most 1 0 (keyword word_of.Len) (λ at room. read.length_of (inner room) at) New_ (λ at e. plain.Length e at) Any (λ at. word_at word_of.Len at) FitsExpression (λ e. mark_piece symbol.LeftParen ∷ then_paren e)
       (From 6) (From 5) primary_pieces AfterPrimary AfterPrimary (keyword-table word_of.Len) (λ at. length_said most inner exact at AfterPrimary) new_or_later (omega arith)
@@ -119,7 +121,7 @@ module _ (most : ℕ) (inner : Family plain.Expression) (exact : Exact most 0 in
   abbrev False_ : Family plain.Primary
   False_ room = where_comes (keyword word_of.False) (λ at. give (plain.Boolean false at)) (Len_ room)
 
-  false_or_later : Exact most 1 False_ (Said (From 4) primary_pieces) AfterPrimary
+  false_or_later : ExactWithin most 1 False_ (Said (From 4) primary_pieces) AfterPrimary
   unfolding IsPrimary PlacedPrimary primary_pieces
   false_or_later = said-choice most 1 0 (keyword word_of.False) (λ at _. give (plain.Boolean false at)) Len_ (λ at (_ : Unit {0}). plain.Boolean false at) Any (λ at. word_at word_of.False at) (λ _. Unit {0}) (λ _. [])
       (From 5) (From 4) primary_pieces AfterPrimary AfterPrimary (keyword-table word_of.False) (λ at. formed-give most 0 (plain.Boolean false at) AfterPrimary) len_or_later (omega arith)
@@ -131,7 +133,7 @@ module _ (most : ℕ) (inner : Family plain.Expression) (exact : Exact most 0 in
       split (plain.Boolean true at) fits = inr (fits.0, omega (arith, fits.1))
       split _ fits = inr (fits.0, omega (arith, fits.1))
 
-  marked_said : Exact most 1 (λ room. read.marked (inner room)) (Said (From 3) primary_pieces) AfterPrimary
+  marked_said : ExactWithin most 1 (λ room. read.marked (inner room)) (Said (From 3) primary_pieces) AfterPrimary
   unfolding IsPrimary PlacedPrimary primary_pieces read.marked
   marked_said = said-choice most 1 0 (keyword word_of.True) (λ at _. give (plain.Boolean true at)) False_ (λ at (_ : Unit {0}). plain.Boolean true at) Any (λ at. word_at word_of.True at) (λ _. Unit {0}) (λ _. [])
       (From 4) (From 3) primary_pieces AfterPrimary AfterPrimary (keyword-table word_of.True) (λ at. formed-give most 0 (plain.Boolean true at) AfterPrimary) false_or_later (omega arith)
@@ -146,7 +148,7 @@ module _ (most : ℕ) (inner : Family plain.Expression) (exact : Exact most 0 in
   abbrev Upper_ : Family plain.Primary
   Upper_ room = where_comes upper (read.tuple (inner room)) (read.marked (inner room))
 
-  upper_or_later : Exact most 1 Upper_ (Said (From 2) primary_pieces) AfterPrimary
+  upper_or_later : ExactWithin most 1 Upper_ (Said (From 2) primary_pieces) AfterPrimary
   unfolding IsPrimary PlacedPrimary primary_pieces
   upper_or_later = said-choice most 1 0 upper (λ name room. read.tuple (inner room) name) (λ room. read.marked (inner room)) (λ name es. plain.Make name (to_expressions es)) Any spelling.upper SomeFit (λ es. mark_piece symbol.LeftParen ∷ closed_arguments es)
       (From 3) (From 2) primary_pieces AfterPrimary AfterPrimary upper-table (λ name. tuple_said most inner exact name AfterPrimary) marked_said (omega arith)
@@ -172,7 +174,7 @@ module _ (most : ℕ) (inner : Family plain.Expression) (exact : Exact most 0 in
   abbrev Lower_ : Family plain.Primary
   Lower_ room = where_comes lower (read.named (inner room)) (Upper_ room)
 
-  lower_or_later : Exact most 1 Lower_ (Said (From 1) primary_pieces) AfterPrimary
+  lower_or_later : ExactWithin most 1 Lower_ (Said (From 1) primary_pieces) AfterPrimary
   unfolding IsPrimary PlacedPrimary primary_pieces
   lower_or_later = said-choice most 1 0 lower (λ name room. read.named (inner room) name) Upper_ named_of Any spelling.lower named_fits named_parts
       (From 2) (From 1) primary_pieces AfterPrimary AfterPrimary lower-table (λ name. named_said most inner exact name) upper_or_later (omega arith)
@@ -198,7 +200,7 @@ module _ (most : ℕ) (inner : Family plain.Expression) (exact : Exact most 0 in
       split (plain.Boolean false at) fits = inr (fits.0, omega (arith, fits.1))
       split _ fits = inr (fits.0, omega (arith, fits.1))
 
-  pub primary_said : Exact most 1 (λ room. read.primary (inner room)) (Said FitsPrimary primary_pieces) AfterPrimary
+  pub primary_said : ExactWithin most 1 (λ room. read.primary (inner room)) (Said FitsPrimary primary_pieces) AfterPrimary
   unfolding IsPrimary PlacedPrimary primary_pieces read.primary
   primary_said = said-choice most 1 0 number (λ n _. give (plain.Number n.0 n.1)) Lower_ (λ n (_ : Unit {0}). plain.Number n.0 n.1) Any (λ n. placed (kind.Num n.0) n.1) (λ _. Unit {0}) (λ _. [])
       (From 1) FitsPrimary primary_pieces AfterPrimary AfterPrimary number-table (λ n. formed-give most 0 (plain.Number n.0 n.1) AfterPrimary) lower_or_later (omega arith)

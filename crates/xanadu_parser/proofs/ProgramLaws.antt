@@ -6,10 +6,11 @@ use Rattle.xanadu_tree.specs.PlainTree as plain
 use Rattle.xanadu_tree.specs.Pieces.{Spelled}
 use Rattle.xanadu_tree.specs.Spelling.{declaration_pieces}
 use Rattle.xanadu_tree.specs.Written.{declaration_at}
-use Rattle.xanadu_parser.specs.Reader.{Read, ◌>>=◌}
+use Rattle.xan_read.specs.Reader.{◌>>=◌, Alike}
+use Rattle.xan_read.specs.Symbols.{OneThen}
+use Rattle.xan_read.proofs.AlikeLaws.{alike_through, done, failed, ok_parts, err_is}
+use Rattle.xanadu_parser.specs.Reader.{Read}
 use Rattle.xanadu_parser.specs.Declarations.{declaration, declarations_from}
-use Rattle.xanadu_parser.proofs.Exact.{Alike, alike_through, done, failed, ok_parts, err_is}
-use Rattle.xanadu_parser.proofs.ExactUntil.{OneThen}
 use Rattle.xanadu_parser.proofs.Saying.{Said}
 use Rattle.xanadu_parser.proofs.DeclarationLaws.{FitsDeclaration, exact-declaration}
 

@@ -12,11 +12,14 @@ use Rattle.xanadu_tree.specs.Pieces.{Piece, Spelled, word_at, mark as mark_piece
 use Rattle.xanadu_tree.specs.Spelling as spelling
 use Rattle.xanadu_tree.specs.Spelling.{semicolon, expression_pieces, indices_pieces, arguments_pieces, statement_pieces}
 use Rattle.xanadu_tree.specs.Written.{IsSome, WhereGiven, AreExpressions, AreIndices, IsStatement, PlacedExpressions, PlacedIndices, PlacedStatement}
-use Rattle.xanadu_parser.specs.Reader.{eat, take, give, made, in_turn, where_comes, behind, before}
+use Rattle.xan_read.specs.Combinators.{give, made, in_turn, InTurn}
+use Rattle.xan_read.specs.Symbols.{eat, take, where_comes, behind, before}
+use Rattle.xan_read.specs.Rooms.{ExactWithin}
+use Rattle.xan_read.proofs.RoomLaws.{within-as, within-in_turn}
+use Rattle.xanadu_parser.specs.Reader.{Family}
 use Rattle.xanadu_parser.specs.Tables.{mark, keyword, lower, is_keyword}
 use Rattle.xanadu_parser.specs.Expressions.{expression, arguments, indices}
 use Rattle.xanadu_parser.specs.Statements as read
-use Rattle.xanadu_parser.proofs.Exact.{Family, Exact, InTurn, exact-as, exact-in_turn}
 use Rattle.xanadu_parser.proofs.Saying.{Said, Formed, Any, Ends, spelled-append, spelled-split, said-take, formed-give, formed-made, formed-field, formed-behind, said-of, said-choice, said-choice-any, formed-of, said-before, ends-mark}
 use Rattle.xanadu_parser.proofs.SayingLists.{said-separated}
 use Rattle.xanadu_parser.proofs.Taken.{at_0, mark-kind, keyword-table, lower-table}
@@ -37,7 +40,7 @@ names_split : (xs : List Identifier) → IsSome xs → (q : Identifier × List I
 names_split [] some = absurd some
 names_split (x ∷ xs) some = ((x, xs), refl, (tt, tt))
 
-exact_names : (most slack : ℕ) → Exact most slack (λ _. read.names) (Said IsSome (with_commas Name)) (Ends (by_mark no_comma))
+exact_names : (most slack : ℕ) → ExactWithin most slack (λ _. read.names) (Said IsSome (with_commas Name)) (Ends (by_mark no_comma))
 unfolding read.names
 exact_names most slack = said-of most slack (λ _. read.names) (λ (q : Identifier × List Identifier). (q.0 ∷ []) ++ q.1) (λ _. Unit {0} × Unit {0}) (λ q. Name q.0 ++ behind_commas Name q.1) IsSome (with_commas Name)
     (Ends (by_mark no_comma)) (Ends (by_mark no_comma))
@@ -50,13 +53,13 @@ abbrev E_ : Family plain.Expression
 E_ = expression
 
 module _ (most : ℕ) (Stops : List Token → Type 0) where
-  ended_said : Exact most 0 (λ room. read.ended room) (Said FitsExpression then_semicolon) Stops
+  ended_said : ExactWithin most 0 (λ room. read.ended room) (Said FitsExpression then_semicolon) Stops
   unfolding read.ended
   ended_said = said-before most 0 (mark symbol.Semicolon) (kind.Symbol symbol.Semicolon) E_ FitsExpression expression_pieces (Ends (by_mark after_expression)) Stops (mark-kind symbol.Semicolon) (at_0 (kind.Symbol symbol.Semicolon)) refl (exact-expression most)
       (λ token rest is. ends_at after_expression token rest (kind.Symbol symbol.Semicolon) is refl)
 
   -- an expression in parentheses
-  pub test_said : Exact most 0 (λ room. read.condition room) (Said FitsExpression (λ e. mark_piece symbol.LeftParen ∷ then_paren e)) Stops
+  pub test_said : ExactWithin most 0 (λ room. read.condition room) (Said FitsExpression (λ e. mark_piece symbol.LeftParen ∷ then_paren e)) Stops
   unfolding read.condition
   test_said = said-of most 0 (λ room. read.condition room) (λ (e : plain.Expression). e) FitsExpression (λ e. mark_piece symbol.LeftParen ∷ then_paren e) FitsExpression (λ e. mark_piece symbol.LeftParen ∷ then_paren e) Stops Stops
       (formed-behind most 0 0 (mark symbol.LeftParen) (kind.Symbol symbol.LeftParen) (λ room. before (mark symbol.RightParen) (expression room)) (λ e. e) FitsExpression then_paren Stops (mark-kind symbol.LeftParen) (at_0 (kind.Symbol symbol.LeftParen)) refl
@@ -66,7 +69,7 @@ module _ (most : ℕ) (Stops : List Token → Type 0) where
       (λ e f. f) (λ e. refl) (λ e f. (e, refl, f))) (omega arith))
       (λ e f. f) (λ e. refl) (λ e f. (e, refl, f)) (λ _ h. h)
 
-  declared_said : (at : ℕ) → Exact most 0 (λ room. read.declared room at) (Formed (λ (z : Identifier × plain.Expression). plain.Declare z.0 z.1 at) (λ z. Unit {0} × FitsExpression z.1) (λ z. Name z.0 ++ (mark_piece symbol.Equal ∷ then_semicolon z.1))) Stops
+  declared_said : (at : ℕ) → ExactWithin most 0 (λ room. read.declared room at) (Formed (λ (z : Identifier × plain.Expression). plain.Declare z.0 z.1 at) (λ z. Unit {0} × FitsExpression z.1) (λ z. Name z.0 ++ (mark_piece symbol.Equal ∷ then_semicolon z.1))) Stops
   unfolding read.declared
   declared_said at = formed-field most 0 0 (λ _. take lower) (λ name room. behind (mark symbol.Equal) (made (λ e. plain.Declare name e at) (read.ended room))) (λ name e. plain.Declare name e at) (λ _. Unit {0}) FitsExpression Name
       (λ e. mark_piece symbol.Equal ∷ then_semicolon e) (λ _. Unit {0}) Stops (said-take most 0 lower (λ _. Unit {0}) spelling.lower (λ _. Unit {0}) lower-table)
@@ -74,7 +77,7 @@ module _ (most : ℕ) (Stops : List Token → Type 0) where
       (formed-made most 0 (λ e. plain.Declare name e at) (λ room. read.ended room) FitsExpression then_semicolon Stops ended_said) (omega arith))
       (λ _ _ _. omega arith) (λ _ _ _ _ _ _. tt)
 
-  split_said : (at : ℕ) → Exact most 0 (λ room. read.split room at) (Formed (λ (z : List Identifier × plain.Expression). plain.Split z.0 z.1 at) (λ z. IsSome z.0 × FitsExpression z.1)
+  split_said : (at : ℕ) → ExactWithin most 0 (λ room. read.split room at) (Formed (λ (z : List Identifier × plain.Expression). plain.Split z.0 z.1 at) (λ z. IsSome z.0 × FitsExpression z.1)
       (λ z. mark_piece symbol.LeftParen ∷ (with_commas Name z.0 ++ (mark_piece symbol.RightParen ∷ mark_piece symbol.Equal ∷ then_semicolon z.1)))) Stops
   unfolding read.split
   split_said at = formed-behind most 0 0 (mark symbol.LeftParen) (kind.Symbol symbol.LeftParen) (λ room. in_turn read.names (λ xs. behind (mark symbol.RightParen) (behind (mark symbol.Equal) (made (λ e. plain.Split xs e at) (read.ended room)))))
@@ -100,7 +103,7 @@ abbrev GivesValue : ℕ → plain.Statement → Type 0
 GivesValue at s = (e : plain.Expression) × (s ≡ plain.Return (Some e) at) × FitsExpression e
 
 module _ (most : ℕ) (Stops : List Token → Type 0) where
-  returned_said : (at : ℕ) → Exact most 0 (λ room. read.returned room at) (Formed (λ o. plain.Return o at) (WhereGiven FitsExpression) (λ o. optional expression_pieces o ++ semicolon)) Stops
+  returned_said : (at : ℕ) → ExactWithin most 0 (λ room. read.returned room at) (Formed (λ o. plain.Return o at) (WhereGiven FitsExpression) (λ o. optional expression_pieces o ++ semicolon)) Stops
   unfolding read.returned
   returned_said at = formed-of most 0 (λ room. read.returned room at) (IsReturn at) behind_return (λ o. plain.Return o at) (WhereGiven FitsExpression) (λ o. optional expression_pieces o ++ semicolon) Stops
       (said-choice-any most 0 0 (mark symbol.Semicolon) (kind.Symbol symbol.Semicolon) (λ _ _. give (plain.Return None at)) (λ room. made (λ e. plain.Return (Some e) at) (read.ended room)) (λ (_ : Unit {0}). plain.Return None at) (λ _. Unit {0}) (λ _. [])
@@ -148,7 +151,7 @@ abbrev called_parts : List plain.Expression × Unit {0} → List Piece
 called_parts z = closed_arguments z.0 ++ (mark_piece symbol.Semicolon ∷ [])
 
 module _ (most : ℕ) (Stops : List Token → Type 0) where
-  called_said : (name : Identifier) → Exact most 0 (λ room. read.called room name) (Formed (λ (z : List plain.Expression × Unit {0}). plain.Do name (to_expressions z.0)) (λ z. FitExpressions z.0 × Unit {0}) called_parts) Stops
+  called_said : (name : Identifier) → ExactWithin most 0 (λ room. read.called room name) (Formed (λ (z : List plain.Expression × Unit {0}). plain.Do name (to_expressions z.0)) (λ z. FitExpressions z.0 × Unit {0}) called_parts) Stops
   unfolding read.called
   called_said name = formed-field most 0 0 (λ room. arguments (expression room)) (λ es _. behind (mark symbol.Semicolon) (give (plain.Do name (to_expressions es)))) (λ es (_ : Unit {0}). plain.Do name (to_expressions es)) FitExpressions (λ _. Unit {0})
       closed_arguments (λ _. mark_piece symbol.Semicolon ∷ []) (λ _. Unit {0}) Stops (arguments_said most E_ (exact-expression most) (λ _. Unit {0}))
@@ -156,7 +159,7 @@ module _ (most : ℕ) (Stops : List Token → Type 0) where
       (formed-give most 0 (plain.Do name (to_expressions es)) Stops) (omega arith))
       (λ _ _ _. omega arith) (λ _ _ _ _ _ _. tt)
 
-  assigned_said : (name : Identifier) → Exact most 0 (λ room. read.assigned room name) (Said (IsAssigned name) behind_name) Stops
+  assigned_said : (name : Identifier) → ExactWithin most 0 (λ room. read.assigned room name) (Said (IsAssigned name) behind_name) Stops
   unfolding read.assigned
   assigned_said name = said-of most 0 (λ room. read.assigned room name) (λ (z : List (plain.Expression × ℕ) × plain.Expression). plain.Assign name (to_indices z.0) z.1) (λ z. FitIndices z.0 × FitsExpression z.1)
       (λ z. indices_pieces (to_indices z.0) ++ (mark_piece symbol.Equal ∷ then_semicolon z.1)) (IsAssigned name) behind_name Stops Stops
@@ -169,7 +172,7 @@ module _ (most : ℕ) (Stops : List Token → Type 0) where
       (λ _ _ _. omega arith) (λ e text rest f h after. ends-mark (by_mark after_postfix) (mark_piece symbol.Equal) (then_semicolon e) text rest h refl))
       (λ z f. (z, refl, f)) (λ z. refl) (λ s a. (a.0, a.1, a.2)) (λ _ h. h)
 
-  behind_name_said : (name : Identifier) → Exact most 0 (λ room. where_comes (mark symbol.LeftParen) (λ _. read.called room name) (read.assigned room name)) (Said (IsNamedStatement name) behind_name) Stops
+  behind_name_said : (name : Identifier) → ExactWithin most 0 (λ room. where_comes (mark symbol.LeftParen) (λ _. read.called room name) (read.assigned room name)) (Said (IsNamedStatement name) behind_name) Stops
   behind_name_said name = said-choice-any most 0 0 (mark symbol.LeftParen) (kind.Symbol symbol.LeftParen) (λ _ room. read.called room name) (λ room. read.assigned room name) (λ (z : List plain.Expression × Unit {0}). plain.Do name (to_expressions z.0)) (λ z. FitExpressions z.0 × Unit {0}) called_parts
       (IsAssigned name) (IsNamedStatement name) behind_name Stops Stops (mark-kind symbol.LeftParen) (λ _. called_said name) (assigned_said name) (omega arith)
       (λ z f. inl (z.0, refl, f.0)) (λ z. ap (λ (p : List Piece). mark_piece symbol.LeftParen ∷ p) (sym (append_assoc (arguments_pieces (to_expressions z.0)) (mark_piece symbol.RightParen ∷ []) (mark_piece symbol.Semicolon ∷ [])))) (λ s a. inr a) split
@@ -277,11 +280,11 @@ name_of (plain.Assign t is e) fits = (
 name_of _ fits = absurd (omega (arith, fits.1))
 
 module _ (most : ℕ) (Stops : List Token → Type 0) where
-  named_said : Exact most 0 (λ room. read.named room) (Said (From 6) statement_pieces) Stops
+  named_said : ExactWithin most 0 (λ room. read.named room) (Said (From 6) statement_pieces) Stops
   unfolding read.named
-  named_said = exact-as most 0 (λ room. read.named room) (InTurn (Said (λ _. Unit {0}) Name) (λ name. Said (IsNamedStatement name) behind_name)) (Said (From 6) statement_pieces) Stops Stops
-      (exact-in_turn most 0 0 (λ _. take lower) (λ name room. where_comes (mark symbol.LeftParen) (λ _. read.called room name) (read.assigned room name)) (Said (λ _. Unit {0}) Name) (λ name. Said (IsNamedStatement name) behind_name)
-      (λ _. Unit {0}) Stops (said-take most 0 lower (λ _. Unit {0}) spelling.lower (λ _. Unit {0}) lower-table) (behind_name_said most Stops) (λ _ _ _. omega arith) (λ _ _ _ _ _ _. tt))
+  named_said = within-as most 0 (λ room. read.named room) (InTurn (Said (λ _. Unit {0}) Name) (λ name. Said (IsNamedStatement name) behind_name)) (Said (From 6) statement_pieces) Stops Stops
+      (within-in_turn most 0 0 (λ _. take lower) (λ name room. where_comes (mark symbol.LeftParen) (λ _. read.called room name) (read.assigned room name)) (Said (λ _. Unit {0}) Name) (λ name. Said (IsNamedStatement name) behind_name)
+      (λ _. Unit {0}) Stops (said-take most 0 lower (λ _. Unit {0}) spelling.lower (λ _. Unit {0}) lower-table) (λ name _ _. behind_name_said most Stops name) (λ _ _ _. omega arith) (λ _ _ _ _ _ _. tt))
       into from (λ _ h. h)
     where
       into : (s : plain.Statement) (text : List Token) → InTurn (Said (λ _. Unit {0}) Name) (λ name. Said (IsNamedStatement name) behind_name) s text → Said (From 6) statement_pieces s text
@@ -301,7 +304,7 @@ module _ (most : ℕ) (Stops : List Token → Type 0) where
   abbrev Return_ : Family plain.Statement
   Return_ room = where_comes (keyword word_of.Return) (read.returned room) (read.named room)
 
-  return_or_later : Exact most 0 Return_ (Said (From 5) statement_pieces) Stops
+  return_or_later : ExactWithin most 0 Return_ (Said (From 5) statement_pieces) Stops
   unfolding IsStatement PlacedStatement statement_pieces
   return_or_later = said-choice most 0 0 (keyword word_of.Return) (λ at room. read.returned room at) (λ room. read.named room) (λ at o. plain.Return o at) Any (λ at. word_at word_of.Return at) (WhereGiven FitsExpression) (λ o. optional expression_pieces o ++ semicolon)
       (From 6) (From 5) statement_pieces Stops Stops (keyword-table word_of.Return) (λ at. returned_said most Stops at) named_said (omega arith) fits_return (λ at o. refl) (λ s f. (f.0, omega (arith, f.1))) split
@@ -319,7 +322,7 @@ module _ (most : ℕ) (Stops : List Token → Type 0) where
   abbrev Print_ : Family plain.Statement
   Print_ room = where_comes (keyword word_of.Print) (λ at. made (λ e. plain.Print e at) (read.ended room)) (Return_ room)
 
-  print_or_later : Exact most 0 Print_ (Said (From 4) statement_pieces) Stops
+  print_or_later : ExactWithin most 0 Print_ (Said (From 4) statement_pieces) Stops
   unfolding IsStatement PlacedStatement statement_pieces
   print_or_later = said-choice most 0 0 (keyword word_of.Print) (λ at room. made (λ e. plain.Print e at) (read.ended room)) Return_ (λ at e. plain.Print e at) Any (λ at. word_at word_of.Print at) FitsExpression then_semicolon
       (From 5) (From 4) statement_pieces Stops Stops (keyword-table word_of.Print) (λ at. formed-made most 0 (λ e. plain.Print e at) (λ room. read.ended room) FitsExpression then_semicolon Stops (ended_said most Stops)) return_or_later (omega arith)
@@ -333,7 +336,7 @@ module _ (most : ℕ) (Stops : List Token → Type 0) where
   abbrev Let_ : Family plain.Statement
   Let_ room = where_comes (keyword word_of.Let) (read.split room) (Print_ room)
 
-  let_or_later : Exact most 0 Let_ (Said (From 3) statement_pieces) Stops
+  let_or_later : ExactWithin most 0 Let_ (Said (From 3) statement_pieces) Stops
   unfolding IsStatement PlacedStatement statement_pieces
   let_or_later = said-choice most 0 0 (keyword word_of.Let) (λ at room. read.split room at) Print_ (λ at (z : List Identifier × plain.Expression). plain.Split z.0 z.1 at) Any (λ at. word_at word_of.Let at) (λ z. IsSome z.0 × FitsExpression z.1)
       (λ z. mark_piece symbol.LeftParen ∷ (with_commas Name z.0 ++ (mark_piece symbol.RightParen ∷ mark_piece symbol.Equal ∷ then_semicolon z.1)))
@@ -345,7 +348,7 @@ module _ (most : ℕ) (Stops : List Token → Type 0) where
       split (plain.Split xs e at) f = inl (at, (xs, e), refl, tt, (f.0.0.0, (f.0.0.1, f.0.1)))
       split _ f = inr (f.0, omega (arith, f.1))
 
-  pub simple_said : Exact most 0 (λ room. read.simple room) (Said (From 2) statement_pieces) Stops
+  pub simple_said : ExactWithin most 0 (λ room. read.simple room) (Said (From 2) statement_pieces) Stops
   unfolding IsStatement PlacedStatement statement_pieces read.simple
   simple_said = said-choice most 0 0 (keyword word_of.Var) (λ at room. read.declared room at) Let_ (λ at (z : Identifier × plain.Expression). plain.Declare z.0 z.1 at) Any (λ at. word_at word_of.Var at) (λ z. Unit {0} × FitsExpression z.1)
       (λ z. Name z.0 ++ (mark_piece symbol.Equal ∷ then_semicolon z.1))

@@ -16,16 +16,20 @@ use Rattle.xanadu_tree.specs.PlainTree as plain
 use Rattle.xanadu_tree.specs.Pieces.{Piece, Spelled, placed, word_at, mark as mark_piece, mark_at, behind_commas, with_commas, optional}
 use Rattle.xanadu_tree.specs.Spelling as spelling
 use Rattle.xanadu_tree.specs.Written.{PlacedIndex, PlacedType, PlacedParameter, PlacedClause, IsClause, IsSome, WhereGiven}
-use Rattle.xanadu_parser.specs.Reader.{Reader, eat, take, give, made, in_turn, where_comes, behind, before, separated}
+use Rattle.xan_read.specs.Combinators.{give, made, in_turn, InTurn}
+use Rattle.xan_read.specs.Symbols.{eat, take, where_comes, behind, before, separated}
+use Rattle.xan_read.specs.Rooms.{ExactWithin}
+use Rattle.xan_read.proofs.RoomLaws.{within-as, within-in_turn}
+use Rattle.xanadu_parser.specs.Reader.{Reader}
 use Rattle.xanadu_parser.specs.Tables.{mark, keyword, lower, upper, is_symbol}
 use Rattle.xanadu_parser.specs.Index as index
 use Rattle.xanadu_parser.specs.Types as read
-use Rattle.xanadu_parser.proofs.Exact.{Exact, InTurn, exact-as, exact-in_turn}
 use Rattle.xanadu_parser.proofs.Saying.{Said, Formed, Any, Ends, spelled-append, spelled-split, said-take, formed-give, formed-made, formed-field, formed-behind, said-of, said-choice, said-choice-any, formed-of, formed-as, said-before, said-give}
 use Rattle.xanadu_parser.proofs.SayingLists.{said-separated}
 use Rattle.xanadu_parser.proofs.Taken.{at_0, mark-kind, mark-table, keyword-table, lower-table, upper-table}
 use Rattle.xanadu_parser.proofs.Follows.{by_mark, no_mark, fewer, ends_at, mark-none, keyword-none, after_index, not_taken, no_text}
 use Rattle.xanadu_parser.proofs.IndexLaws.{exact-index, said-quantified, IsQuantified, behind_brace, all_parts, no_index_mark}
+use Rattle.xanadu_parser.proofs.MarkSets.{among, not_among, not_within}
 
 -- ---- elements
 
@@ -42,12 +46,12 @@ no_word_named : (wanted : Keyword) (e : Element) (text rest : List Token) → Is
 no_word_named wanted e text rest n h = not_taken (keyword wanted) (spelling.upper n.0) [] text rest (λ token is. keyword-none wanted token (kind.Upper n.0.name) is refl)
     (subst (λ (p : List Piece). Spelled p text) (ap element_pieces n.1) h)
 
-exact_named : (most slack : ℕ) (Stops : List Token → Type 0) → Exact most slack (λ _. made element_of.Named (take upper)) (Said IsNamed element_pieces) Stops
+exact_named : (most slack : ℕ) (Stops : List Token → Type 0) → ExactWithin most slack (λ _. made element_of.Named (take upper)) (Said IsNamed element_pieces) Stops
 exact_named most slack Stops = said-of most slack (λ _. made element_of.Named (take upper)) element_of.Named Any (λ x. spelling.upper x ∷ []) IsNamed element_pieces Stops Stops
     (formed-made most slack element_of.Named (λ _. take upper) Any (λ x. spelling.upper x ∷ []) Stops (said-take most slack upper Any spelling.upper Stops upper-table))
     (λ x _. (x, refl)) (λ x. refl) (λ e n. (n.0, n.1, tt)) (λ _ h. h)
 
-exact_no_int : (most slack : ℕ) (Stops : List Token → Type 0) → Exact most slack (λ _. where_comes (keyword word_of.Bool) (λ at. give (element_of.Bool at)) (made element_of.Named (take upper))) (Said IsNoInt element_pieces) Stops
+exact_no_int : (most slack : ℕ) (Stops : List Token → Type 0) → ExactWithin most slack (λ _. where_comes (keyword word_of.Bool) (λ at. give (element_of.Bool at)) (made element_of.Named (take upper))) (Said IsNoInt element_pieces) Stops
 exact_no_int most slack Stops = said-choice most slack slack (keyword word_of.Bool) (λ at _. give (element_of.Bool at)) (λ _. made element_of.Named (take upper)) (λ at (_ : Unit {0}). element_of.Bool at) Any (λ at. placed (kind.Keyword word_of.Bool) at) (λ _. Unit {0}) (λ _. [])
     IsNamed IsNoInt element_pieces Stops Stops (keyword-table word_of.Bool) (λ at. formed-give most slack (element_of.Bool at) Stops) (exact_named most slack Stops) (omega arith)
     (λ at _ _ _. inl (at, refl)) (λ at _. refl) (λ e n. inr n) split (λ e text rest n h after. (after, no_word_named word_of.Bool e text rest n h))
@@ -56,7 +60,7 @@ exact_no_int most slack Stops = said-choice most slack slack (keyword word_of.Bo
     split e (inl b) = inl (b.0, tt, b.1, tt, tt)
     split e (inr n) = inr n
 
-pub exact-element : (most slack : ℕ) (Stops : List Token → Type 0) → Exact most slack (λ _. read.element) (Said Any element_pieces) Stops
+pub exact-element : (most slack : ℕ) (Stops : List Token → Type 0) → ExactWithin most slack (λ _. read.element) (Said Any element_pieces) Stops
 unfolding read.element
 exact-element most slack Stops = said-choice most slack slack (keyword word_of.Int) (λ at _. give (element_of.Int at)) (λ _. where_comes (keyword word_of.Bool) (λ at. give (element_of.Bool at)) (made element_of.Named (take upper)))
     (λ at (_ : Unit {0}). element_of.Int at) Any (λ at. placed (kind.Keyword word_of.Int) at) (λ _. Unit {0}) (λ _. []) IsNoInt Any element_pieces Stops Stops (keyword-table word_of.Int)
@@ -81,7 +85,7 @@ abbrev index_then : Symbol → plain.IndexExpression → List Piece
 index_then s i = spelling.index_pieces i ++ (mark_piece s ∷ [])
 
 -- an index, and a mark that closes it
-exact_index_then : (most slack : ℕ) (s : Symbol) (Stops : List Token → Type 0) → after_index s ≡ false → Exact most slack (λ _. before (mark s) index.index) (Said PlacedIndex (index_then s)) Stops
+exact_index_then : (most slack : ℕ) (s : Symbol) (Stops : List Token → Type 0) → after_index s ≡ false → ExactWithin most slack (λ _. before (mark s) index.index) (Said PlacedIndex (index_then s)) Stops
 exact_index_then most slack s Stops other = said-before most slack (mark s) (kind.Symbol s) (λ _. index.index) PlacedIndex spelling.index_pieces (Ends (by_mark after_index)) Stops (mark-kind s) (at_0 (kind.Symbol s)) refl (exact-index most slack)
     (λ token rest is. ends_at after_index token rest (kind.Symbol s) is other)
 
@@ -91,7 +95,7 @@ length_pieces o = optional spelling.index_pieces o ++ (mark_piece symbol.RightBr
 abbrev IsGivenLength : Option plain.IndexExpression → Type 0
 IsGivenLength o = (i : plain.IndexExpression) × (o ≡ Some i) × PlacedIndex i
 
-exact_length : (most slack : ℕ) (Stops : List Token → Type 0) → Exact most slack (λ _. read.length_of) (Said (WhereGiven PlacedIndex) length_pieces) Stops
+exact_length : (most slack : ℕ) (Stops : List Token → Type 0) → ExactWithin most slack (λ _. read.length_of) (Said (WhereGiven PlacedIndex) length_pieces) Stops
 unfolding read.length_of
 exact_length most slack Stops = said-choice-any most slack slack (mark symbol.RightBracket) (kind.Symbol symbol.RightBracket) (λ _ _. give None) (λ _. made Some (before (mark symbol.RightBracket) index.index)) (λ (_ : Unit {0}). None) (λ _. Unit {0}) (λ _. [])
     IsGivenLength (WhereGiven PlacedIndex) length_pieces Stops Stops (mark-kind symbol.RightBracket) (λ _. formed-give most slack None Stops)
@@ -130,18 +134,17 @@ type_split (plain.Named x) = refl
 type_split (plain.Array e len) = refl
 
 -- what follows no type
+abbrev pub type_marks : List Symbol
+type_marks = symbol.LeftParen ∷ symbol.LeftBracket ∷ []
+
 abbrev pub after_type : Symbol → Bool
-after_type symbol.LeftParen = true
-after_type symbol.LeftBracket = true
-after_type _ = false
+after_type = among type_marks
 
 after_type_paren : (s : Symbol) → after_type s ≡ false → is_symbol symbol.LeftParen (kind.Symbol s) ≡ false
-after_type_paren symbol.LeftParen e = absurd cc
-after_type_paren _ e = refl
+after_type_paren = not_among type_marks symbol.LeftParen refl
 
 after_type_bracket : (s : Symbol) → after_type s ≡ false → is_symbol symbol.LeftBracket (kind.Symbol s) ≡ false
-after_type_bracket symbol.LeftBracket e = absurd cc
-after_type_bracket _ e = refl
+after_type_bracket = not_among type_marks symbol.LeftBracket refl
 
 -- a type that is no array's
 abbrev IsNoArray : plain.WrittenType → Type 0
@@ -169,7 +172,7 @@ element_bool a b e = cc
 element_named : (x y : Identifier) → element_of.Named x ≡ element_of.Named y → x ≡ y
 element_named x y e = cc
 
-exact_number_type : (most slack at : ℕ) → Exact most slack (λ _. read.number_type at) (Said (IsAlone (element_of.Int at)) behind_element) After
+exact_number_type : (most slack at : ℕ) → ExactWithin most slack (λ _. read.number_type at) (Said (IsAlone (element_of.Int at)) behind_element) After
 unfolding read.number_type
 exact_number_type most slack at = said-choice-any most slack slack (mark symbol.LeftParen) (kind.Symbol symbol.LeftParen) (λ _ _. made (λ i. plain.IntOf i at) (before (mark symbol.RightParen) index.index)) (λ _. give (plain.Int at))
     (λ i. plain.IntOf i at) PlacedIndex (index_then symbol.RightParen) (λ t. t ≡ plain.Int at) (IsAlone (element_of.Int at)) behind_element After After (mark-kind symbol.LeftParen)
@@ -188,7 +191,7 @@ exact_number_type most slack at = said-choice-any most slack slack (mark symbol.
     stops : (t : plain.WrittenType) (text rest : List Token) → t ≡ plain.Int at → Spelled (behind_element t) text → After rest → After rest × (eat (mark symbol.LeftParen) (text ++ rest) ≡ None)
     stops t text rest e h after = (after, no_text (mark symbol.LeftParen) text rest (subst (λ (p : List Piece). Spelled p text) (ap behind_element e) h) (no_mark after_type symbol.LeftParen after_type_paren rest after))
 
-exact_given : (most slack : ℕ) (e : Element) (t : plain.WrittenType) → behind_element t ≡ [] → IsAlone e t → ((u : plain.WrittenType) → IsAlone e u → u ≡ t) → Exact most slack (λ _. give t) (Said (IsAlone e) behind_element) After
+exact_given : (most slack : ℕ) (e : Element) (t : plain.WrittenType) → behind_element t ≡ [] → IsAlone e t → ((u : plain.WrittenType) → IsAlone e u → u ≡ t) → ExactWithin most slack (λ _. give t) (Said (IsAlone e) behind_element) After
 exact_given most slack e t none alone only = said-of most slack (λ _. give t) (λ (_ : Unit {0}). t) (λ _. Unit {0}) (λ _. []) (IsAlone e) behind_element After After (formed-give most slack t After)
     (λ _ _. alone) (λ _. none) (λ u a. (tt, only u a, tt)) (λ _ h. h)
 
@@ -206,12 +209,12 @@ only_named x (plain.Bool b) a = let e = a.first in absurd cc
 only_named x (plain.Named y) a = ap plain.Named (element_named y x a.first)
 only_named x (plain.Array e len) a = absurd a.no_array
 
-exact_alone : (most slack : ℕ) (e : Element) → Exact most slack (λ _. read.alone e) (Said (IsAlone e) behind_element) After
+exact_alone : (most slack : ℕ) (e : Element) → ExactWithin most slack (λ _. read.alone e) (Said (IsAlone e) behind_element) After
 exact_alone most slack (element_of.Int at) = exact_number_type most slack at
 exact_alone most slack (element_of.Bool at) = exact_given most slack (element_of.Bool at) (plain.Bool at) refl (record { first = refl; placed = tt; no_array = tt }) (only_bool at)
 exact_alone most slack (element_of.Named x) = exact_given most slack (element_of.Named x) (plain.Named x) refl (record { first = refl; placed = tt; no_array = tt }) (only_named x)
 
-exact_of : (most slack : ℕ) (e : Element) → Exact most slack (λ _. where_comes (mark symbol.LeftBracket) (λ _. made (plain.Array e) read.length_of) (read.alone e)) (Said (IsOf e) behind_element) After
+exact_of : (most slack : ℕ) (e : Element) → ExactWithin most slack (λ _. where_comes (mark symbol.LeftBracket) (λ _. made (plain.Array e) read.length_of) (read.alone e)) (Said (IsOf e) behind_element) After
 exact_of most slack e = said-choice-any most slack slack (mark symbol.LeftBracket) (kind.Symbol symbol.LeftBracket) (λ _ _. made (plain.Array e) read.length_of) (λ _. read.alone e) (plain.Array e) (WhereGiven PlacedIndex) length_pieces
     (IsAlone e) (IsOf e) behind_element After After (mark-kind symbol.LeftBracket)
     (λ _. formed-made most slack (plain.Array e) (λ _. read.length_of) (WhereGiven PlacedIndex) length_pieces After (exact_length most slack After)) (exact_alone most slack e) (omega arith)
@@ -231,11 +234,11 @@ exact_of most slack e = said-choice-any most slack slack (mark symbol.LeftBracke
     stops (plain.Named x) text rest a h after = (after, no_text (mark symbol.LeftBracket) text rest h (no_mark after_type symbol.LeftBracket after_type_bracket rest after))
     stops (plain.Array d len) text rest a h after = absurd a.no_array
 
-pub exact-type : (most slack : ℕ) → Exact most slack (λ _. read.written_type) (Said PlacedType spelling.type_pieces) (Ends (by_mark after_type))
+pub exact-type : (most slack : ℕ) → ExactWithin most slack (λ _. read.written_type) (Said PlacedType spelling.type_pieces) (Ends (by_mark after_type))
 unfolding read.written_type
-exact-type most slack = exact-as most slack (λ _. read.written_type) (InTurn (Said Any element_pieces) (λ e. Said (IsOf e) behind_element)) (Said PlacedType spelling.type_pieces) After After
-    (exact-in_turn most slack slack (λ _. read.element) (λ e _. where_comes (mark symbol.LeftBracket) (λ _. made (plain.Array e) read.length_of) (read.alone e)) (Said Any element_pieces) (λ e. Said (IsOf e) behind_element)
-    (λ _. Unit {0}) After (exact-element most slack (λ _. Unit {0})) (exact_of most slack) (λ _ _ _. omega arith) (λ _ _ _ _ _ _. tt))
+exact-type most slack = within-as most slack (λ _. read.written_type) (InTurn (Said Any element_pieces) (λ e. Said (IsOf e) behind_element)) (Said PlacedType spelling.type_pieces) After After
+    (within-in_turn most slack slack (λ _. read.element) (λ e _. where_comes (mark symbol.LeftBracket) (λ _. made (plain.Array e) read.length_of) (read.alone e)) (Said Any element_pieces) (λ e. Said (IsOf e) behind_element)
+    (λ _. Unit {0}) After (exact-element most slack (λ _. Unit {0})) (λ e _ _. exact_of most slack e) (λ _ _ _. omega arith) (λ _ _ _ _ _ _. tt))
     into from (λ _ h. h)
   where
     into : (t : plain.WrittenType) (text : List Token) → InTurn (Said Any element_pieces) (λ e. Said (IsOf e) behind_element) t text → Said PlacedType spelling.type_pieces t text
@@ -257,20 +260,17 @@ exact-type most slack = exact-as most slack (λ _. read.written_type) (InTurn (S
 
 -- ---- lists of types and of parameters
 
+abbrev pub types_marks : List Symbol
+types_marks = symbol.Comma ∷ type_marks
+
 abbrev pub after_types : Symbol → Bool
-after_types symbol.LeftParen = true
-after_types symbol.LeftBracket = true
-after_types symbol.Comma = true
-after_types _ = false
+after_types = among types_marks
 
 types_type : (s : Symbol) → after_types s ≡ false → after_type s ≡ false
-types_type symbol.LeftParen e = absurd cc
-types_type symbol.LeftBracket e = absurd cc
-types_type _ e = refl
+types_type = not_within types_marks type_marks refl
 
 types_comma : (s : Symbol) → after_types s ≡ false → is_symbol symbol.Comma (kind.Symbol s) ≡ false
-types_comma symbol.Comma e = absurd cc
-types_comma _ e = refl
+types_comma = not_among types_marks symbol.Comma refl
 
 abbrev pub AreTypes : List plain.WrittenType → Type 0
 AreTypes ts = IsSome ts × All PlacedType ts
@@ -278,12 +278,12 @@ AreTypes ts = IsSome ts × All PlacedType ts
 abbrev pub AreParameters : List plain.Parameter → Type 0
 AreParameters ps = IsSome ps × All PlacedParameter ps
 
-module _ {A : Type 0} (P : Reader A) (Fits : A → Type 0) (pieces : A → List Piece) (exact : (most slack : ℕ) → Exact most slack (λ _. P) (Said Fits pieces) (Ends (by_mark after_type))) where
+module _ {A : Type 0} (P : Reader A) (Fits : A → Type 0) (pieces : A → List Piece) (exact : (most slack : ℕ) → ExactWithin most slack (λ _. P) (Said Fits pieces) (Ends (by_mark after_type))) where
   split_list : (xs : List A) → IsSome xs × All Fits xs → (q : A × List A) × (xs ≡ (q.0 ∷ []) ++ q.1) × (Fits q.0 × All Fits q.1)
   split_list [] fits = absurd fits.0
   split_list (x ∷ xs) fits = ((x, xs), refl, all_parts Fits x xs fits.1)
 
-  exact_list : (most slack : ℕ) → Exact most slack (λ _. separated (mark symbol.Comma) P) (Said (λ xs. IsSome xs × All Fits xs) (with_commas pieces)) (Ends (by_mark after_types))
+  exact_list : (most slack : ℕ) → ExactWithin most slack (λ _. separated (mark symbol.Comma) P) (Said (λ xs. IsSome xs × All Fits xs) (with_commas pieces)) (Ends (by_mark after_types))
   exact_list most slack = said-of most slack (λ _. separated (mark symbol.Comma) P) (λ (q : A × List A). (q.0 ∷ []) ++ q.1) (λ q. Fits q.0 × All Fits q.1) (λ q. pieces q.0 ++ behind_commas pieces q.1) (λ xs. IsSome xs × All Fits xs) (with_commas pieces)
       (Ends (by_mark after_types)) (Ends (by_mark after_types))
       (said-separated most slack (mark symbol.Comma) (kind.Symbol symbol.Comma) (λ _. P) Fits pieces (All Fits) (behind_commas pieces) (Ends (by_mark after_type)) (Ends (by_mark after_types)) (mark-kind symbol.Comma)
@@ -292,11 +292,11 @@ module _ {A : Type 0} (P : Reader A) (Fits : A → Type 0) (pieces : A → List 
       refl (λ x xs. refl) (All-nil Fits) (λ x xs fits others. All-cons Fits x xs fits others) (all_parts Fits))
       (λ q fits. (tt, All-cons Fits q.0 q.1 fits.0 fits.1)) (λ q. refl) split_list (λ _ h. h)
 
-pub exact-types : (most slack : ℕ) → Exact most slack (λ _. read.types) (Said AreTypes (with_commas spelling.type_pieces)) (Ends (by_mark after_types))
+pub exact-types : (most slack : ℕ) → ExactWithin most slack (λ _. read.types) (Said AreTypes (with_commas spelling.type_pieces)) (Ends (by_mark after_types))
 unfolding read.types
 exact-types most slack = exact_list read.written_type PlacedType spelling.type_pieces exact-type most slack
 
-pub exact-parameter : (most slack : ℕ) → Exact most slack (λ _. read.parameter) (Said PlacedParameter spelling.parameter_pieces) (Ends (by_mark after_type))
+pub exact-parameter : (most slack : ℕ) → ExactWithin most slack (λ _. read.parameter) (Said PlacedParameter spelling.parameter_pieces) (Ends (by_mark after_type))
 unfolding read.parameter
 exact-parameter most slack = said-of most slack (λ _. read.parameter) (λ z. read.parameter_of z.0 z.1) (λ z. Unit {0} × PlacedType z.1) (λ z. spelling.lower z.0 ∷ [] ++ mark_piece symbol.Colon ∷ spelling.type_pieces z.1) PlacedParameter spelling.parameter_pieces After After
     (formed-field most slack slack (λ _. take lower) (λ name _. behind (mark symbol.Colon) (made (read.parameter_of name) read.written_type)) read.parameter_of Any PlacedType (λ x. spelling.lower x ∷ []) (λ t. mark_piece symbol.Colon ∷ spelling.type_pieces t)
@@ -309,7 +309,7 @@ exact-parameter most slack = said-of most slack (λ _. read.parameter) (λ z. re
 abbrev pub closed_parameters : List plain.Parameter → List Piece
 closed_parameters ps = with_commas spelling.parameter_pieces ps ++ (mark_piece symbol.RightParen ∷ [])
 
-pub exact-some_parameters : (most slack : ℕ) (Stops : List Token → Type 0) → Exact most slack (λ _. read.some_parameters) (Said AreParameters closed_parameters) Stops
+pub exact-some_parameters : (most slack : ℕ) (Stops : List Token → Type 0) → ExactWithin most slack (λ _. read.some_parameters) (Said AreParameters closed_parameters) Stops
 unfolding read.some_parameters read.listed_parameters
 exact-some_parameters most slack Stops = said-before most slack (mark symbol.RightParen) (kind.Symbol symbol.RightParen) (λ _. read.listed_parameters) AreParameters (with_commas spelling.parameter_pieces) (Ends (by_mark after_types)) Stops
     (mark-kind symbol.RightParen) (at_0 (kind.Symbol symbol.RightParen)) refl (exact_list read.parameter PlacedParameter spelling.parameter_pieces exact-parameter most slack)
@@ -324,7 +324,7 @@ no_paren_parameters [] text rest fits h = absurd fits.0
 no_paren_parameters (p ∷ ps) text rest fits h = not_taken (mark symbol.RightParen) (spelling.lower p.name) (mark_piece symbol.Colon ∷ (((spelling.type_pieces p.ty) ++ behind_commas spelling.parameter_pieces ps) ++ (mark_piece symbol.RightParen ∷ []))) text rest
     (λ token is. mark-none symbol.RightParen token (kind.Lower p.name.name) is refl) h
 
-exact_closed : (most slack : ℕ) (Stops : List Token → Type 0) → Exact most slack (λ _. where_comes (mark symbol.RightParen) (λ _. give []) read.some_parameters) (Said (All PlacedParameter) closed_parameters) Stops
+exact_closed : (most slack : ℕ) (Stops : List Token → Type 0) → ExactWithin most slack (λ _. where_comes (mark symbol.RightParen) (λ _. give []) read.some_parameters) (Said (All PlacedParameter) closed_parameters) Stops
 exact_closed most slack Stops = said-choice-any most slack slack (mark symbol.RightParen) (kind.Symbol symbol.RightParen) (λ _ _. give []) (λ _. read.some_parameters) (λ (_ : Unit {0}). []) (λ _. Unit {0}) (λ _. [])
     AreParameters (All PlacedParameter) closed_parameters Stops Stops (mark-kind symbol.RightParen) (λ _. formed-give most slack [] Stops) (exact-some_parameters most slack Stops) (omega arith)
     (λ _ _. All-nil PlacedParameter) (λ _. refl) (λ ps fits. fits.1) split (λ ps text rest fits h after. (after, no_paren_parameters ps text rest fits h))
@@ -333,7 +333,7 @@ exact_closed most slack Stops = said-choice-any most slack slack (mark symbol.Ri
     split [] fits = inl (tt, refl, tt)
     split (p ∷ ps) fits = inr (tt, fits)
 
-pub exact-parameters : (most slack : ℕ) (Stops : List Token → Type 0) → Exact most slack (λ _. read.parameters) (Said (All PlacedParameter) parameters_pieces) Stops
+pub exact-parameters : (most slack : ℕ) (Stops : List Token → Type 0) → ExactWithin most slack (λ _. read.parameters) (Said (All PlacedParameter) parameters_pieces) Stops
 unfolding read.parameters
 exact-parameters most slack Stops = said-of most slack (λ _. read.parameters) (λ (ps : List plain.Parameter). ps) (All PlacedParameter) parameters_pieces (All PlacedParameter) parameters_pieces Stops Stops
     (formed-behind most slack slack (mark symbol.LeftParen) (kind.Symbol symbol.LeftParen) (λ _. where_comes (mark symbol.RightParen) (λ _. give []) read.some_parameters) (λ ps. ps) (All PlacedParameter) closed_parameters Stops (mark-kind symbol.LeftParen) (at_0 (kind.Symbol symbol.LeftParen)) refl
@@ -352,7 +352,7 @@ IsUnquantified c = (z : ℕ × List plain.Parameter) × (c ≡ read.clause_of No
 abbrev pub quantifier_at : ℕ → List Binder × List plain.Relation → plain.Quantifier
 quantifier_at at z = index.quantifier_of at z.0 z.1
 
-exact_quantified_clause : (most slack at : ℕ) (Stops : List Token → Type 0) → Exact most slack (λ _. read.quantified_clause at)
+exact_quantified_clause : (most slack at : ℕ) (Stops : List Token → Type 0) → ExactWithin most slack (λ _. read.quantified_clause at)
     (Formed (λ (z : plain.Quantifier × List plain.Parameter). read.clause_of (Some z.0) at z.1) (λ z. ((z.0.at ≡ at) × IsQuantified z.0) × AreParameters z.1) (λ z. behind_brace z.0 ++ (mark_piece symbol.LeftParen ∷ closed_parameters z.1))) Stops
 unfolding read.quantified_clause
 exact_quantified_clause most slack at Stops = formed-field most slack slack (λ _. index.quantified at) (λ q _. behind (mark symbol.LeftParen) (made (read.clause_of (Some q) at) read.some_parameters)) (λ q ps. read.clause_of (Some q) at ps)
@@ -361,7 +361,7 @@ exact_quantified_clause most slack at Stops = formed-field most slack slack (λ 
     (formed-made most slack (read.clause_of (Some q) at) (λ _. read.some_parameters) AreParameters closed_parameters Stops (exact-some_parameters most slack Stops)) (omega arith))
     (λ _ _ _. omega arith) (λ _ _ _ _ _ _. tt)
 
-exact_bare_clause : (most slack : ℕ) (Stops : List Token → Type 0) → Exact most slack (λ _. in_turn (take (mark symbol.LeftParen)) (λ at. made (read.clause_of None at) read.some_parameters)) (Said IsUnquantified spelling.clause_pieces) Stops
+exact_bare_clause : (most slack : ℕ) (Stops : List Token → Type 0) → ExactWithin most slack (λ _. in_turn (take (mark symbol.LeftParen)) (λ at. made (read.clause_of None at) read.some_parameters)) (Said IsUnquantified spelling.clause_pieces) Stops
 exact_bare_clause most slack Stops = said-of most slack (λ _. in_turn (take (mark symbol.LeftParen)) (λ at. made (read.clause_of None at) read.some_parameters)) (λ (z : ℕ × List plain.Parameter). read.clause_of None z.0 z.1) (λ z. Unit {0} × AreParameters z.1)
     (λ z. mark_at symbol.LeftParen z.0 ∷ [] ++ closed_parameters z.1) IsUnquantified spelling.clause_pieces Stops Stops
     (formed-field most slack slack (λ _. take (mark symbol.LeftParen)) (λ at _. made (read.clause_of None at) read.some_parameters) (λ at ps. read.clause_of None at ps) Any AreParameters (λ at. mark_at symbol.LeftParen at ∷ []) closed_parameters (λ _. Unit {0}) Stops
@@ -369,14 +369,14 @@ exact_bare_clause most slack Stops = said-of most slack (λ _. in_turn (take (ma
     (λ at. formed-made most slack (read.clause_of None at) (λ _. read.some_parameters) AreParameters closed_parameters Stops (exact-some_parameters most slack Stops)) (λ _ _ _. omega arith) (λ _ _ _ _ _ _. tt))
     (λ z f. (z, refl, f.1)) (λ z. refl) (λ c u. (u.0, u.1, (tt, u.2))) (λ _ h. h)
 
-pub exact-clause : (most slack : ℕ) (Stops : List Token → Type 0) → Exact most slack (λ _. read.clause) (Said FitsClause spelling.clause_pieces) Stops
+pub exact-clause : (most slack : ℕ) (Stops : List Token → Type 0) → ExactWithin most slack (λ _. read.clause) (Said FitsClause spelling.clause_pieces) Stops
 unfolding read.clause
 exact-clause most slack Stops = said-choice most slack slack (mark symbol.LeftBrace) (λ at _. read.quantified_clause at) (λ _. in_turn (take (mark symbol.LeftParen)) (λ at. made (read.clause_of None at) read.some_parameters))
     (λ at z. read.clause_of (Some (quantifier_at at z.0)) at z.1) Any (λ at. mark_at symbol.LeftBrace at) (λ z. IsQuantified (quantifier_at 0 z.0) × AreParameters z.1) (λ z. behind_brace (quantifier_at 0 z.0) ++ (mark_piece symbol.LeftParen ∷ closed_parameters z.1))
     IsUnquantified FitsClause spelling.clause_pieces Stops Stops (mark-table symbol.LeftBrace) at_brace (exact_bare_clause most slack Stops) (omega arith)
     (λ at z _ f. ((f.0.0, f.1.0), (refl, f.0.1, f.1.1))) same other split stops
   where
-    at_brace : (at : ℕ) → Exact most slack (λ _. read.quantified_clause at) (Formed (λ (z : (List Binder × List plain.Relation) × List plain.Parameter). read.clause_of (Some (quantifier_at at z.0)) at z.1) (λ z. IsQuantified (quantifier_at 0 z.0) × AreParameters z.1)
+    at_brace : (at : ℕ) → ExactWithin most slack (λ _. read.quantified_clause at) (Formed (λ (z : (List Binder × List plain.Relation) × List plain.Parameter). read.clause_of (Some (quantifier_at at z.0)) at z.1) (λ z. IsQuantified (quantifier_at 0 z.0) × AreParameters z.1)
         (λ z. behind_brace (quantifier_at 0 z.0) ++ (mark_piece symbol.LeftParen ∷ closed_parameters z.1))) Stops
     at_brace at = formed-as most slack (λ _. read.quantified_clause at) (λ (z : plain.Quantifier × List plain.Parameter). read.clause_of (Some z.0) at z.1) (λ z. ((z.0.at ≡ at) × IsQuantified z.0) × AreParameters z.1)
         (λ z. behind_brace z.0 ++ (mark_piece symbol.LeftParen ∷ closed_parameters z.1)) (λ (z : (List Binder × List plain.Relation) × List plain.Parameter). read.clause_of (Some (quantifier_at at z.0)) at z.1) (λ z. IsQuantified (quantifier_at 0 z.0) × AreParameters z.1)

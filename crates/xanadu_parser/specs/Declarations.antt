@@ -5,7 +5,10 @@ use Rattle.xanadu_lexer.specs.declared.symbol.Symbol.TheVariants as symbol
 use Rattle.xanadu_tree.specs.declared.tree.declaration.Identifier.{Identifier}
 use Rattle.xanadu_tree.specs.PlainTree as plain
 use Rattle.xanadu_tree.specs.Written.{type_at}
-use Rattle.xanadu_parser.specs.Reader.{Reader, ◌>>=◌, take, give, made, in_turn, where_comes, before, behind}
+use Rattle.xan_read.specs.Reader.{◌>>=◌}
+use Rattle.xan_read.specs.Combinators.{give, made, in_turn}
+use Rattle.xan_read.specs.Symbols.{take, where_comes, before, behind}
+use Rattle.xanadu_parser.specs.Reader.{Reader}
 use Rattle.xanadu_parser.specs.Tables.{keyword, mark, lower, upper}
 use Rattle.xanadu_parser.specs.Index.{quantifier, quantified}
 use Rattle.xanadu_parser.specs.Types.{written_type, types, parameters}

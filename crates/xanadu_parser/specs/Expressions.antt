@@ -8,7 +8,9 @@ use Rattle.xanadu_tree.specs.declared.tree.declaration.Identifier.{Identifier}
 use Rattle.xanadu_tree.specs.PlainTree as plain
 use Rattle.xanadu_tree.specs.PlainTreeOf.{to_conjunctions, to_negations, to_comparand, to_addends, to_factors, to_indices, to_expressions}
 use Rattle.xanadu_tree.specs.Written.{primary_at, postfix_at, unary_at, product_at, sum_at, comparison_at, negation_at, conjunction_at}
-use Rattle.xanadu_parser.specs.Reader.{Reader, take, give, made, in_turn, where_comes, repeated, optional, separated, before, behind}
+use Rattle.xan_read.specs.Combinators.{give, made, in_turn}
+use Rattle.xan_read.specs.Symbols.{take, where_comes, repeated, optional, separated, before, behind}
+use Rattle.xanadu_parser.specs.Reader.{Reader}
 use Rattle.xanadu_parser.specs.Tables.{keyword, mark, symbol_among, sum_operator, product_operator, lower, upper, number}
 use Rattle.xanadu_parser.specs.Tables as table
 use Rattle.xanadu_parser.specs.Types.{element}

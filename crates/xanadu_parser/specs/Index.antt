@@ -12,7 +12,9 @@ use Rattle.xanadu_tree.specs.declared.tree.index.Sort.{Sort}
 use Rattle.xanadu_tree.specs.declared.tree.index.Sort.TheVariants as sort_of
 use Rattle.xanadu_tree.specs.PlainTree as plain
 use Rattle.xanadu_tree.specs.Written.{index_term_at}
-use Rattle.xanadu_parser.specs.Reader.{Reader, take, give, made, in_turn, where_comes, repeated, optional, separated, behind}
+use Rattle.xan_read.specs.Combinators.{give, made, in_turn}
+use Rattle.xan_read.specs.Symbols.{take, where_comes, repeated, optional, separated, behind}
+use Rattle.xanadu_parser.specs.Reader.{Reader}
 use Rattle.xanadu_parser.specs.Tables.{keyword, mark, symbol_among, sign, index_relation, lower, number}
 
 unfoldable pub scaled : ℤ → ℕ → Reader IndexTerm

@@ -5,7 +5,9 @@ use Rattle.xanadu_lexer.specs.declared.symbol.Symbol.TheVariants as symbol
 use Rattle.xanadu_tree.specs.declared.tree.declaration.Identifier.{Identifier}
 use Rattle.xanadu_tree.specs.PlainTree as plain
 use Rattle.xanadu_tree.specs.PlainTreeOf.{to_indices, to_expressions, to_branch, to_statements}
-use Rattle.xanadu_parser.specs.Reader.{Reader, take, give, made, in_turn, where_comes, until, optional, separated, before, behind}
+use Rattle.xan_read.specs.Combinators.{give, made, in_turn}
+use Rattle.xan_read.specs.Symbols.{take, where_comes, until, optional, separated, before, behind}
+use Rattle.xanadu_parser.specs.Reader.{Reader}
 use Rattle.xanadu_parser.specs.Tables.{keyword, mark, lower}
 use Rattle.xanadu_parser.specs.Types.{clause_behind}
 use Rattle.xanadu_parser.specs.Expressions.{expression, arguments, indices}

@@ -7,7 +7,9 @@ use Rattle.xanadu_tree.specs.declared.tree.declaration.Identifier.{Identifier}
 use Rattle.xanadu_tree.specs.declared.tree.types.Element.{Element}
 use Rattle.xanadu_tree.specs.declared.tree.types.Element.TheVariants as element_of
 use Rattle.xanadu_tree.specs.PlainTree as plain
-use Rattle.xanadu_parser.specs.Reader.{Reader, take, give, made, in_turn, where_comes, optional, separated, before, behind}
+use Rattle.xan_read.specs.Combinators.{give, made, in_turn}
+use Rattle.xan_read.specs.Symbols.{take, where_comes, optional, separated, before, behind}
+use Rattle.xanadu_parser.specs.Reader.{Reader}
 use Rattle.xanadu_parser.specs.Tables.{keyword, mark, lower, upper}
 use Rattle.xanadu_parser.specs.Index.{index, quantified}
 

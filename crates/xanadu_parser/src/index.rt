@@ -83,7 +83,7 @@ pub fn index_expression(alloc: Global, tokens: &mut Tokens<'_>) -> Result<IndexE
 }
 
 /// One of the five relations between indices.
-#[tactic(auto, unfolding(crate::specs::Index::between, crate::specs::Reader::take))]
+#[tactic(auto, unfolding(crate::specs::Index::between, xan_read::specs::Symbols::take))]
 fn between(tokens: &mut Tokens<'_>) -> Result<IndexRelation, Stop>
     ensures { Reads (λ x. x) result tokens.new (spec.between tokens.old) }
 {

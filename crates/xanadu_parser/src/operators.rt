@@ -2,7 +2,7 @@
 
 ghost use Rattle.std.specs.Prelude.{◌≡◌};
 ghost use Rattle.xanadu_parser.specs.Code.{Eats};
-ghost use Rattle.xanadu_parser.specs.Reader.{eat};
+ghost use Rattle.xan_read.specs.Symbols.{eat};
 ghost use Rattle.xanadu_parser.specs.Tables as table;
 
 use crate::tokens::Tokens;

@@ -2,7 +2,7 @@
 
 ghost use Rattle.std.specs.Prelude.{◌≡◌, length, drop};
 ghost use Rattle.xanadu_parser.specs.Code.{Reads, Eats, EatsNamed};
-ghost use Rattle.xanadu_parser.specs.Reader as spec;
+ghost use Rattle.xan_read.specs.Symbols as spec;
 ghost use Rattle.xanadu_parser.specs.Tables as table;
 
 use crate::stop::Stop;
@@ -77,7 +77,7 @@ impl<'a> Tokens<'a> {
     }
 
     /// Takes this mark where it comes next, and gives its offset.
-    #[tactic(auto, unfolding(crate::specs::Reader::eat, crate::specs::Tables::mark))]
+    #[tactic(auto, unfolding(xan_read::specs::Symbols::eat, crate::specs::Tables::mark))]
     pub fn eat_symbol(&mut self, wanted: Symbol) -> Option<u32>
         ensures { Eats (λ at. at) result self.old self.new (spec.eat (table.mark wanted) self.old) }
     {
@@ -94,7 +94,7 @@ impl<'a> Tokens<'a> {
     }
 
     /// Takes this keyword where it comes next, and gives its offset.
-    #[tactic(auto, unfolding(crate::specs::Reader::eat, crate::specs::Tables::keyword))]
+    #[tactic(auto, unfolding(xan_read::specs::Symbols::eat, crate::specs::Tables::keyword))]
     pub fn eat_keyword(&mut self, wanted: Keyword) -> Option<u32>
         ensures { Eats (λ at. at) result self.old self.new (spec.eat (table.keyword wanted) self.old) }
     {
@@ -111,7 +111,7 @@ impl<'a> Tokens<'a> {
     }
 
     /// Takes a number where one comes next, and gives it with its offset.
-    #[tactic(auto, unfolding(crate::specs::Reader::eat, crate::specs::Tables::number))]
+    #[tactic(auto, unfolding(xan_read::specs::Symbols::eat, crate::specs::Tables::number))]
     pub fn eat_number(&mut self) -> Option<(i64, u32)>
         ensures { Eats (λ x. x) result self.old self.new (spec.eat table.number self.old) }
     {
@@ -128,7 +128,7 @@ impl<'a> Tokens<'a> {
     }
 
     /// Takes a name that begins with a small letter, where one comes next.
-    #[tactic(auto, unfolding(crate::specs::Reader::eat, crate::specs::Tables::lower))]
+    #[tactic(auto, unfolding(xan_read::specs::Symbols::eat, crate::specs::Tables::lower))]
     pub fn eat_lower(&mut self) -> Result<Option<Identifier>, Memory>
         ensures { EatsNamed result self.old self.new (spec.eat table.lower self.old) }
     {
@@ -146,7 +146,7 @@ impl<'a> Tokens<'a> {
     }
 
     /// Takes a name that begins with a capital letter, where one comes next.
-    #[tactic(auto, unfolding(crate::specs::Reader::eat, crate::specs::Tables::upper))]
+    #[tactic(auto, unfolding(xan_read::specs::Symbols::eat, crate::specs::Tables::upper))]
     pub fn eat_upper(&mut self) -> Result<Option<Identifier>, Memory>
         ensures { EatsNamed result self.old self.new (spec.eat table.upper self.old) }
     {
@@ -164,7 +164,7 @@ impl<'a> Tokens<'a> {
     }
 
     /// Takes this mark, and gives its offset.
-    #[tactic(auto, unfolding(crate::specs::Reader::take))]
+    #[tactic(auto, unfolding(xan_read::specs::Symbols::take))]
     pub fn symbol(&mut self, wanted: Symbol) -> Result<u32, Stop>
         ensures { Reads (λ at. at) result self.new (spec.take (table.mark wanted) self.old) }
     {
@@ -175,7 +175,7 @@ impl<'a> Tokens<'a> {
     }
 
     /// Takes this keyword, and gives its offset.
-    #[tactic(auto, unfolding(crate::specs::Reader::take))]
+    #[tactic(auto, unfolding(xan_read::specs::Symbols::take))]
     pub fn keyword(&mut self, wanted: Keyword) -> Result<u32, Stop>
         ensures { Reads (λ at. at) result self.new (spec.take (table.keyword wanted) self.old) }
     {
@@ -186,7 +186,7 @@ impl<'a> Tokens<'a> {
     }
 
     /// Takes a number, and gives it with its offset.
-    #[tactic(auto, unfolding(crate::specs::Reader::take))]
+    #[tactic(auto, unfolding(xan_read::specs::Symbols::take))]
     pub fn number(&mut self) -> Result<(i64, u32), Stop>
         ensures { Reads (λ x. x) result self.new (spec.take table.number self.old) }
     {
@@ -197,7 +197,7 @@ impl<'a> Tokens<'a> {
     }
 
     /// Takes a name that begins with a small letter.
-    #[tactic(auto, unfolding(crate::specs::Reader::take))]
+    #[tactic(auto, unfolding(xan_read::specs::Symbols::take))]
     pub fn lower(&mut self) -> Result<Identifier, Stop>
         ensures { Reads (λ x. x) result self.new (spec.take table.lower self.old) }
     {
@@ -208,7 +208,7 @@ impl<'a> Tokens<'a> {
     }
 
     /// Takes a name that begins with a capital letter.
-    #[tactic(auto, unfolding(crate::specs::Reader::take))]
+    #[tactic(auto, unfolding(xan_read::specs::Symbols::take))]
     pub fn upper(&mut self) -> Result<Identifier, Stop>
         ensures { Reads (λ x. x) result self.new (spec.take table.upper self.old) }
     {

@@ -1,5 +1,5 @@
 use Rattle.std.proofs.Common.{◌≡◌, ◌-◌}
-use Rattle.xanadu_parser.specs.Reader.{repeated_from}
+use Rattle.xan_read.specs.Symbols.{repeated_from}
 use Rattle.xanadu_lexer.specs.declared.symbol.Symbol.TheVariants as symbol
 use Rattle.xanadu_parser.specs.Tables.{mark}
 use Rattle.xanadu_parser.specs.Index.{binder, binders}

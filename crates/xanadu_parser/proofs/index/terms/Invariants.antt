@@ -1,5 +1,5 @@
 use Rattle.std.proofs.Common.{◌≡◌, ◌-◌}
-use Rattle.xanadu_parser.specs.Reader.{repeated_from}
+use Rattle.xan_read.specs.Symbols.{repeated_from}
 use Rattle.xanadu_parser.specs.Tables.{symbol_among, sign}
 use Rattle.xanadu_parser.specs.Index.{signed, terms}
 use Rattle.xanadu_parser.proofs.index.terms.Given as goal

@@ -2,7 +2,7 @@ use Rattle.std.proofs.Common.{◌-◌, ◌+◌, arith}
 use Rattle.std.proofs.lemmas.Result.{err_from_is_err_and}
 use Rattle.xanadu_lexer.specs.declared.symbol.Symbol.TheVariants as symbol
 use Rattle.xanadu_parser.specs.Tables.{mark}
-use Rattle.xanadu_parser.specs.Reader.{take}
+use Rattle.xan_read.specs.Symbols.{take}
 use Rattle.xanadu_parser.specs.Tables.{lower}
 use Rattle.xanadu_parser.proofs.Loops.{more, fails, ends, full}
 use Rattle.xanadu_parser.proofs.statements.names.Goals as goal

@@ -1,9 +1,8 @@
 use Rattle.std.proofs.Common.{◌≡◌, ◌-◌}
-use Rattle.xanadu_parser.specs.Reader.{repeated_from}
+use Rattle.xan_read.specs.Symbols.{repeated_from, take}
 use Rattle.xanadu_lexer.specs.declared.symbol.Symbol.TheVariants as symbol
 use Rattle.xanadu_parser.specs.Tables.{mark}
 use Rattle.xanadu_parser.specs.Statements.{names}
-use Rattle.xanadu_parser.specs.Reader.{take}
 use Rattle.xanadu_parser.specs.Tables.{lower}
 use Rattle.xanadu_parser.proofs.statements.names.Given as goal
 

@@ -1,5 +1,5 @@
 use Rattle.std.proofs.Common.{◌≡◌, ◌-◌, map}
-use Rattle.xanadu_parser.specs.Reader.{repeated_from}
+use Rattle.xan_read.specs.Symbols.{repeated_from}
 use Rattle.xanadu_parser.specs.Tables.{symbol_among, product_operator}
 use Rattle.xanadu_parser.specs.Views.{behind_factor}
 use Rattle.xanadu_parser.specs.Expressions as spec
