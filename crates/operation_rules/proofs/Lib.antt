@@ -12,3 +12,5 @@ pub mod ListedValues
 pub mod CallsFare
 pub mod OperationsFare
 pub mod RuleExamples
+pub mod FlatWalks
+pub mod FlatStores

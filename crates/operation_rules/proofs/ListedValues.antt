@@ -5,7 +5,8 @@ use Rattle.std.proofs.lemmas.Int.{ints}
 use Rattle.std.proofs.lemmas.Bool.{lt-ltb}
 use Rattle.std.proofs.Math.Seq.{drop-cons}
 use Rattle.xan_lin.proofs.Booleans.{is_less, is_not_less}
-use Rattle.operation_rules.proofs.LongerValues.{value_at-front, value_at-behind, value-front}
+use Rattle.operation_rules.proofs.LongerValues.{value_at-front, value_at-behind}
+use Rattle.state_types.proofs.Unpacked.{value-front}
 use Rattle.std.proofs.lemmas.Bool.Decides.{Decides-eqb}
 use Rattle.std.proofs.lemmas.List.Elements.{All-head, All-tail}
 use Rattle.xan_lin.specs.Linear.{Linear, NamesBelow, variable_form}
@@ -13,13 +14,13 @@ use Rattle.xan_lin.specs.Subst.{listed, replacement, subst_of, values_from, give
 use Rattle.xan_lin.specs.Value.{value_at, value_of}
 use Rattle.xan_lin.proofs.Substituting.{subst-value}
 use Rattle.xan_lin.proofs.Values.{value-cons, value-none}
-use Rattle.state_types.specs.Matching.{value_for, values_for, pairs_of, demanded, found_with, matched}
+use Rattle.state_types.specs.Matching.{value_for, values_for, pairs_of, found_with, matched}
 use Rattle.state_types.specs.Types.{TypeBelow, subst_ty}
 use Rattle.state_types.specs.Words.{Headers, HasType, IsBlock}
 use Rattle.state_types.specs.declared.matching.Found.{Found}
 use Rattle.state_types.specs.declared.types.Ty.{Ty}
 use Rattle.state_types.specs.declared.types.Ty.TheVariants as ty
-use Rattle.state_types.proofs.Pairing.{length-values_from}
+use Rattle.state_types.proofs.Pairing.{found_is, length-values_from}
 use Rattle.state_types.proofs.Thens.{then_ok, ok_same}
 use Rattle.operation_rules.specs.Forms.{variables_from}
 
@@ -29,17 +30,11 @@ pub record Lists (below vars : ℕ) (found : Found) : Type 0 where
   pub pairs : _
   pub are : found.values ≡ values_for below (vars - below) pairs
 
-with_values : (values : List (ℕ × Linear)) (below : ℕ) (pairs : _) (rows : List Linear) (found : Found) → found_with values below pairs rows ≡ Ok found → found.values ≡ values
-unfolding found_with
-with_values values below pairs rows found e =
-    let s = then_ok (demanded values below pairs rows) _ found e in
-    sym (ap (λ f. f.values) (ok_same _ found s.second))
-
 pub lists_of : (below vars : ℕ) (rows : List Linear) (wanted actual : List Ty) (found : Found) → matched below vars rows wanted actual ≡ Ok found → Lists below vars found
 unfolding matched
 lists_of below vars rows wanted actual found e =
     let s = then_ok (pairs_of 0 wanted actual []) (λ pairs. found_with (values_for below (vars - below) pairs) below pairs rows) found e in
-    record { pairs = s.value; are = with_values (values_for below (vars - below) s.value) below s.value rows found s.second }
+    record { pairs = s.value; are = (found_is (values_for below (vars - below) s.value) below s.value rows found s.second).0 }
 
 -- ---- looking a variable up
 

@@ -16,7 +16,8 @@ use Rattle.state_types.specs.declared.types.Ty.TheVariants as ty
 use Rattle.xan_lin.specs.Linear.{excess_of}
 use Rattle.operation_rules.specs.Forms.{constant_form, number_with, number_of, multiple_form, quotient_rows, remainder_rows}
 use Rattle.operation_rules.specs.Rules.{gives_number, gives_fresh, product}
-use Rattle.operation_rules.proofs.LongerValues.{value_at-behind, value-front}
+use Rattle.operation_rules.proofs.LongerValues.{value_at-behind}
+use Rattle.state_types.proofs.Unpacked.{value-front}
 use Rattle.operation_rules.proofs.RuleFacts.{OkHolds, Meets, meets_gives}
 
 -- ---- values of forms that rules make

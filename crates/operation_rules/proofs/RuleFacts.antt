@@ -1,13 +1,12 @@
 -- What a rule that is applied gives.
-use Rattle.std.proofs.Common.{◌≡◌, ℕ, ◌+◌, ℤ, List, [], ◌∷◌, ◌++◌, map, length, length-append, Bool as Truth, true, false, cond, nat_le, Result, Ok, Err, Option, Some, None, refl, sym, ◌∙◌, ap, subst}
+use Rattle.std.proofs.Common.{◌≡◌, ℕ, ◌+◌, ℤ, List, [], ◌∷◌, ◌++◌, map, length, length-append, Result, Ok, Err, Option, Some, None, refl, sym, ◌∙◌, ap, subst}
 use Rattle.std.specs.List.{All, AllZip}
 use Rattle.std.proofs.lemmas.List.{append-nil}
-use Rattle.std.proofs.lemmas.List.Elements.{All-nil, All-cons, All-head, All-tail, All-push}
+use Rattle.std.proofs.lemmas.List.Elements.{All-nil, All-cons, All-head, All-tail}
 use Rattle.index_sorts.specs.Context.{IndexContext, fresh_from, with_variables}
-use Rattle.index_sorts.specs.Known.{with_row, knows}
+use Rattle.index_sorts.specs.Known.{with_row}
 use Rattle.index_sorts.specs.Entails.{AllHold}
 use Rattle.index_sorts.specs.declared.error.ContextError.{ContextError}
-use Rattle.index_sorts.specs.declared.error.ContextError.TheVariants.{Rows}
 use Rattle.xan_lin.specs.Linear.{Linear, NamesBelow}
 use Rattle.xan_lin.specs.Value.{Holds}
 use Rattle.xan_lin.specs.declared.term.TooLarge.{TooLarge}
@@ -22,7 +21,9 @@ use Rattle.operation_rules.specs.Faults.{Fault, needed, filled, or_fault}
 use Rattle.operation_rules.specs.Rules.{Rule, gives, opens}
 use Rattle.operation_rules.specs.Sound.{Written}
 use Rattle.operation_rules.specs.Stored.{Packs}
-use Rattle.operation_rules.proofs.LongerValues.{present_keeps, part_carries, holds-front, holds-behind}
+use Rattle.operation_rules.proofs.LongerValues.{row-behind}
+use Rattle.state_types.proofs.Unpacked.{rows_grow, present_keeps, part_carries, holds-front}
+use Rattle.state_types.specs.Unpacking.{with_rows}
 
 -- ---- answers
 
@@ -48,34 +49,24 @@ abbrev pub OkHas : Headers → List ℤ → ℤ → Result Ty TooLarge → Type 
 OkHas headers values word (Ok t) = HasType headers values word t
 OkHas headers values word (Err why) = Unit {0}
 
-Grown : IndexContext → Linear → IndexContext → Type 0
-Grown ctx row more = (more.vars ≡ ctx.vars) × ((values : List ℤ) → AllHold values ctx.rows → Holds values row → AllHold values more.rows)
+one_row : (ctx : IndexContext) (row : Linear) (more : IndexContext) → with_row ctx row ≡ Ok more → with_rows ctx (row ∷ []) ≡ Ok more
+unfolding with_rows
+one_row ctx row more e = rw e refl
 
-grown_by : (known full : Truth) (ctx : IndexContext) (row : Linear) (more : IndexContext)
-    → cond known (let r : Result IndexContext ContextError = Ok ctx in r) (cond full (Err Rows) (Ok (record ctx { rows = ctx.rows ++ row ∷ [] }))) ≡ Ok more → Grown ctx row more
-unfolding Grown
-grown_by true full ctx row more e =
-    let same : ctx ≡ more = ok_same ctx more e in
-    (ap (λ c. c.vars) (sym same), λ values holds here. subst (λ c. AllHold values c.rows) same holds)
-grown_by false true ctx row more e = absurd (let bad : ⊥ = cc in bad)
-grown_by false false ctx row more e =
-    let same = ok_same _ more e in
-    (ap (λ c. c.vars) (sym same), λ values holds here. subst (λ c. AllHold values c.rows) same (All-push (Holds values) ctx.rows row holds here))
-
-row_grows : (ctx : IndexContext) (row : Linear) (more : IndexContext) → with_row ctx row ≡ Ok more → Grown ctx row more
-unfolding with_row
-row_grows ctx row more e = grown_by (knows ctx row) (nat_le 512 (length ctx.rows)) ctx row more e
+row_kept : (values : List ℤ) (ctx : IndexContext) (row : Linear) (more : IndexContext) → with_row ctx row ≡ Ok more → AllHold values ctx.rows → Holds values row
+    → (more.vars ≡ ctx.vars) × AllHold values more.rows
+row_kept values ctx row more e before here = rows_grow values ctx more (row ∷ []) (one_row ctx row more e) before (All-cons (Holds values) row [] here (All-nil (Holds values)))
 
 pub assuming_grows : (values : List ℤ) (rows : List (Result Linear TooLarge)) (ctx more : IndexContext) → all_assuming rows ctx ≡ Ok more → AllHold values ctx.rows
     → All (OkHolds values) rows → (more.vars ≡ ctx.vars) × AllHold values more.rows
-unfolding all_assuming Grown
+unfolding all_assuming
 assuming_grows values [] ctx more e before all =
     let same : ctx ≡ more = ok_same ctx more e in
     (ap (λ c. c.vars) (sym same), subst (λ c. AllHold values c.rows) same before)
 assuming_grows values (Ok row ∷ rows) ctx more e before all =
     let s = then_ok (with_row ctx row) (λ m. all_assuming rows m) more e in
-    let g = row_grows ctx row s.value s.first in
-    let later = assuming_grows values rows s.value more s.second (g.1 values before (All-head (OkHolds values) (Ok row) rows all)) (All-tail (OkHolds values) (Ok row) rows all) in
+    let g = row_kept values ctx row s.value s.first before (All-head (OkHolds values) (Ok row) rows all) in
+    let later = assuming_grows values rows s.value more s.second g.1 (All-tail (OkHolds values) (Ok row) rows all) in
     (later.0 ∙ g.0, later.1)
 assuming_grows values (Err why ∷ rows) ctx more e before all =
     assuming_grows values rows ctx more e before (All-tail (OkHolds values) (Err why) rows all)
@@ -164,7 +155,7 @@ meets_gives headers assignment words demands types has = record {
 opened_rows : (xs ys : List ℤ) (rows : List Linear) → AllHold ys rows → All (OkHolds (xs ++ ys)) (map (λ row. let r : Result Linear TooLarge = Ok (shifted (length xs) row) in r) rows)
 opened_rows xs ys [] hold = All-nil (OkHolds (xs ++ ys))
 opened_rows xs ys (row ∷ rows) hold =
-    All-cons (OkHolds (xs ++ ys)) (Ok (shifted (length xs) row)) _ (holds-behind xs ys row (All-head (Holds ys) row rows hold)) (opened_rows xs ys rows (All-tail (Holds ys) row rows hold))
+    All-cons (OkHolds (xs ++ ys)) (Ok (shifted (length xs) row)) _ (row-behind xs ys row (All-head (Holds ys) row rows hold)) (opened_rows xs ys rows (All-tail (Holds ys) row rows hold))
 
 opened_types : (headers : Headers) (xs ys words : List ℤ) (types : List Ty) → AllZip (HasType headers ys) words types
     → AllZip (OkHas headers (xs ++ ys)) words (map (λ t. let r : Result Ty TooLarge = Ok (shifted_type (length xs) t) in r) types)

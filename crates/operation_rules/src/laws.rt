@@ -6,6 +6,7 @@ ghost use Rattle.index_sorts.specs.Entails.{AllHold};
 ghost use Rattle.state_types.specs.declared.types.Ty.{Ty};
 ghost use Rattle.operation_rules.specs.Applied.{Ruled, applied};
 ghost use Rattle.operation_rules.specs.Effects.{Stores, effect};
+ghost use Rattle.operation_rules.specs.FlatWords.{flat_words};
 ghost use Rattle.operation_rules.specs.Operations.{Operation};
 ghost use Rattle.operation_rules.specs.Rules.{Setting, Rule, rule};
 ghost use Rattle.operation_rules.specs.Sound.{IsSetting, Stands, Fares};
@@ -19,4 +20,9 @@ pub fn operations_are_sound<S>()
         → rule st op types ctx.vars ≡ Ok r → applied r ctx ≡ Ok ruled → Stands (stores.headers store) assignment ctx words types
         → StoreFits stores st.table store → AllHold assignment ruled.demands
         → Fares stores st op types store assignment ctx ruled (effect stores op words store) }
+{}
+
+/// Flat words are a kind of store: a written cell changes no header and no other cell, and a block that is appended changes nothing else.
+pub fn flat_words_are_stores()
+    ensures { IsStores flat_words }
 {}

@@ -7,4 +7,4 @@
 
 mod laws;
 
-pub use crate::laws::operations_are_sound;
+pub use crate::laws::{flat_words_are_stores, operations_are_sound};
