@@ -19,7 +19,7 @@ use Rattle.operation_rules.specs.Effects.{Stores, Effect, cells_from, index_with
 use Rattle.operation_rules.specs.Faults.{needed}
 use Rattle.xan_lin.specs.Linear.{excess_of}
 use Rattle.operation_rules.specs.Operations.{Store, New, Tuple}
-use Rattle.operation_rules.specs.Rules.{Setting, Rule, gives, two_types, three_types, as_number, as_array, tuple_at, cell_at, matching_packed, stored, allocated, constructed, rule}
+use Rattle.operation_rules.specs.Rules.{Setting, Rule, gives, two_types, three_types, as_number, as_array, tuple_at, cell_at, of_kinds, matching_packed, stored, allocated, constructed, rule}
 use Rattle.operation_rules.specs.Sound.{Fares, Goes}
 use Rattle.operation_rules.specs.Stored.{IsWritten, IsMade, Packs}
 use Rattle.operation_rules.proofs.BlocksFound.{within_is, array_at, index_by, cell_closed, tuple_closed, packs_of}
@@ -178,9 +178,10 @@ module _ {S : Type 0} (stores : Stores S) (st : Setting) (store : S) (assignment
       let s = then_ok (three_types types) _ r e in
       let t = then_ok (as_array s.value.0) _ r s.second in
       let u = then_ok (as_number s.value.1) _ r t.second in
-      let v = then_ok (needed (excess_of t.value.1 u.value)) _ r u.second in
-      let w = then_ok (cell_at st.table t.value.0) _ r v.second in
-      let x = then_ok (matching_packed w.value (s.value.2 ∷ [])) _ r w.second in
+      let w = then_ok (cell_at st.table t.value.0) _ r u.second in
+      let kinds = then_ok (of_kinds w.value.parts (s.value.2 ∷ [])) _ r w.second in
+      let v = then_ok (needed (excess_of t.value.1 u.value)) _ r kinds.second in
+      let x = then_ok (matching_packed w.value (s.value.2 ∷ [])) _ r v.second in
       let made : gives (u.value ∷ v.value ∷ x.value.rows) [] ≡ r = ok_same _ r x.second in
       let asked : AllHold assignment (u.value ∷ v.value ∷ x.value.rows) = subst (λ (ds : List Linear). AllHold assignment ds) (ap (λ y. y.demands) (sym made)) acts.demands in
       let bounds = bounds_hold assignment t.value.1 u.value v.value x.value.rows (needed_ok (excess_of t.value.1 u.value) v.value v.first) asked in

@@ -20,11 +20,12 @@ use Rattle.state_types.specs.declared.types.Ty.TheVariants as ty
 use Rattle.operation_rules.specs.Applied.{applied, widened, all_assuming, all_given, named, all_there, ruled}
 use Rattle.operation_rules.specs.Effects.{Writes, Takes, Ends, cells_from, effect}
 use Rattle.operation_rules.specs.Entry.{kind_fault, variable_value, variable_values, index_fault, row_fault, entry_fault, placed}
-use Rattle.operation_rules.specs.Faults.{NoTarget, NoType, NoPlace, WrongCount, WrongKind}
+use Rattle.operation_rules.specs.Faults.{NoTarget, NoType, NoPlace, WrongCount, WrongKind, Large}
+use Rattle.xan_lin.specs.declared.term.TooLarge.TheVariants.{Magnitude}
 use Rattle.operation_rules.specs.FlatWords.{Flat, flat_words}
 use Rattle.operation_rules.specs.Forms.{constant_form, variables_from}
 use Rattle.operation_rules.specs.Operations.{Add, Div, Mod, Compare, Branch, Call, Length, Load, Store, New, Untuple}
-use Rattle.operation_rules.specs.Rules.{Setting, rule, tuple_at, cell_at, matching, loaded, split, called}
+use Rattle.operation_rules.specs.Rules.{Setting, rule, tuple_at, cell_at, matching, loaded, split, called, of_kinds, stored}
 
 -- ---- effects on flat words: an array of two numbers, 5 and 7, and then a tuple of one part, 1
 
@@ -159,6 +160,15 @@ wrong_count = refl
 wrong_kind : ruled st (Untuple 2 2) (Some ty.Bool ∷ []) (ctx_of 0 []) ≡ Err WrongKind
 unfolding ruled named tuple_at all_there rule split pair
 wrong_kind = refl
+
+-- past the bounds is the index, and of another kind the value: the kind is named
+kind_before_form : ruled st Store (Some (ty.Array 0 (constant_form (pos 2))) ∷ Some (ty.Int (constant_form (negsuc 4611686018427387902))) ∷ Some ty.Bool ∷ []) (ctx_of 0 []) ≡ Err WrongKind
+unfolding ruled named all_there rule stored cell_at of_kinds
+kind_before_form = refl
+
+form_past : ruled st Load (Some (ty.Array 0 (constant_form (pos 2))) ∷ Some (ty.Int (constant_form (negsuc 4611686018427387902))) ∷ []) (ctx_of 0 []) ≡ Err (Large Magnitude)
+unfolding ruled named all_there rule loaded cell_at excess_of sized sum_terms
+form_past = refl
 
 -- ---- entry
 

@@ -5,7 +5,7 @@ use Rattle.xan_lin.specs.Subst.{subst_of}
 use Rattle.xan_lin.specs.declared.term.TooLarge.{TooLarge}
 use Rattle.state_types.specs.Answers.{◌>>=◌}
 use Rattle.state_types.specs.Matching.{matched}
-use Rattle.state_types.specs.Types.{subst_ty}
+use Rattle.state_types.specs.Types.{same_kind, subst_ty}
 use Rattle.state_types.specs.Unpacking.{shifted, shifted_type}
 use Rattle.state_types.specs.declared.closed.Packed.{Packed}
 use Rattle.state_types.specs.declared.closed.Signature.{Signature}
@@ -145,6 +145,13 @@ matching below vars rows wanted actual = do
   count ← as_many (length wanted) (length actual)
   of_match (matched below vars rows wanted actual)
 
+-- kinds are looked at before any form
+unfoldable pub of_kinds : (wanted actual : List Ty) → Ruling (Unit {0})
+of_kinds [] [] = Ok tt
+of_kinds [] (t ∷ ts) = Err WrongCount
+of_kinds (w ∷ ws) [] = Err WrongCount
+of_kinds (w ∷ ws) (t ∷ ts) = if same_kind w t then of_kinds ws ts else Err WrongKind
+
 abbrev pub matching_packed : Packed → List Ty → Ruling Found
 matching_packed packed types = matching 0 packed.vars packed.rows packed.parts types
 
@@ -185,8 +192,9 @@ stored st types = do
   (t, u, v) ← three_types types
   (p, e) ← as_array t
   i ← as_number u
-  below ← needed (excess_of e i)
   packed ← cell_at st.table p
+  kinds ← of_kinds packed.parts (v ∷ [])
+  below ← needed (excess_of e i)
   found ← matching_packed packed (v ∷ [])
   Ok (gives (i ∷ below ∷ found.rows) [])
 
