@@ -3,13 +3,10 @@
 //! It hands its words to [`dtal_top`] and ends with the status that this answers; all that is promised stands there.
 #![tactic(auto)]
 
-ghost use Rattle.std.specs.Prelude.{◌≡◌, IfOk, drop, map, string_bytes};
-
 use dtal_driver::dtal_top;
-use std::alloc::{AllocError, Global};
 use std::process::ExitCode;
 use std::{env, io};
-use xan_io::{HostFiles, HostSink};
+use xan_io::{HostFiles, HostSink, words_behind_name};
 
 fn main(rt: HostRuntime) -> io::Result<ExitCode> {
     let alloc = rt.alloc();
@@ -18,7 +15,7 @@ fn main(rt: HostRuntime) -> io::Result<ExitCode> {
     let status = match env::args(&rt) {
         Ok(args) => {
             let args: Vec<String> = args.collect(alloc)?;
-            let words = texts(alloc, behind_name(args.as_slice()))?;
+            let words = words_behind_name(alloc, args.as_slice())?;
             dtal_top(alloc, words.as_slice(), &mut files, &mut out)
         }
         // A word that is not UTF-8 makes the words no command.
@@ -28,25 +25,4 @@ fn main(rt: HostRuntime) -> io::Result<ExitCode> {
         Err(error) => return Err(error),
     };
     Ok(ExitCode::from(status))
-}
-
-/// The words behind the program's own name.
-fn behind_name(args: &[String]) -> &[String]
-    ensures { result.now ≡ drop 1 args.now }
-{
-    match args {
-        [_name, words @ ..] => words,
-        [] => args,
-    }
-}
-
-/// The texts of words.
-fn texts(alloc: Global, words: &[String]) -> Result<Vec<&str>, AllocError>
-    ensures { IfOk result (λ texts. map (λ text. text.now) texts.items ≡ map string_bytes words.now) }
-{
-    let mut texts = Vec::new(alloc);
-    for word in words {
-        texts.push(word.as_str())?;
-    }
-    Ok(texts)
 }

@@ -10,8 +10,8 @@ use Rattle.xan_io.specs.Entry.{EntryFault, ArgCount, ArgKind}
 use Rattle.dtal_code.specs.declared.op.Op.{Op}
 use Rattle.dtal_code.specs.declared.straight.Straight.{Straight}
 use Rattle.dtal_code.specs.Machine.{State, Off, step}
-use Rattle.dtal_code.specs.Entry.{kind_fault, arg_words, straight_fault, first_state, straight_outcome}
-use Rattle.dtal_code.proofs.Steps.{Goes, goes-ends, straight-runs}
+use Rattle.dtal_code.specs.Entry.{kind_fault, arg_words, straight_fault, first_state, entry_state, outcome_from}
+use Rattle.dtal_code.proofs.Steps.{Goes, goes-ends, outcome_from-some}
 
 pub length-arg_words : (args : List Arg) → length (arg_words args) ≡ length args
 length-arg_words [] = refl
@@ -51,7 +51,7 @@ fetch-after (_ ∷ front) op back = fetch-after front op back
 
 -- a stretch from the first state and the step that ends the run are the whole run
 pub straight-ends : (program : Straight) (args : List Arg) (heap depth n : ℕ) (out : List ℤ) (last : State) (how : How)
-    → straight_fault program args ≡ None → Goes program.code n [] (first_state args heap (suc depth)) out last → step program.code last ≡ Off how
-    → straight_outcome program args heap (suc depth) (n + 1) ≡ record { printed = out; how = how }
-straight-ends program args heap depth n out last how fault stretch e =
-    straight-runs program args heap depth (n + 1) fault ∙ goes-ends program.code n [] out (first_state args heap (suc depth)) last how stretch e
+    → Goes program.code n [] (first_state args heap (suc depth)) out last → step program.code last ≡ Off how
+    → outcome_from program.code (entry_state args heap (suc depth)) (n + 1) ≡ record { printed = out; how = how }
+straight-ends program args heap depth n out last how stretch e =
+    outcome_from-some program.code (first_state args heap (suc depth)) (n + 1) ∙ goes-ends program.code n [] out (first_state args heap (suc depth)) last how stretch e

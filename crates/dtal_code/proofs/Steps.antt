@@ -6,13 +6,10 @@ use Rattle.std.proofs.lemmas.Bool.Decides.{nat_tests}
 use Rattle.std.specs.Int.{w64}
 use Rattle.xan_io.specs.Outcome.{How, Returned, NoStore, Overflow, Running, IsOver}
 use Rattle.xan_io.specs.Agreement.{Begins, IsSteady}
-use Rattle.xan_io.specs.Entry.{EntryFault}
-use Rattle.xan_io.specs.declared.arg.Arg.{Arg}
-use Rattle.dtal_code.specs.declared.straight.Straight.{Straight}
 use Rattle.dtal_code.specs.declared.op.Op.{Op}
 use Rattle.dtal_code.specs.declared.op.Op.TheVariants.{Li, Mv, Add, Sub, Ret, Print}
 use Rattle.dtal_code.specs.Machine.{Activation, State, Next, On, Off, step, run, after, acts, with_word, stands, fetched, goes_on, writes, writes_exact, returns, fits_word}
-use Rattle.dtal_code.specs.Entry.{places_of, straight_fault, first_state, straight_entry, begun, straight_outcome}
+use Rattle.dtal_code.specs.Entry.{places_of, outcome_from}
 
 -- ---- places
 
@@ -244,24 +241,17 @@ run-grows code (suc m) (suc k) printed state le =
 
 -- ---- whole runs
 
-pub begun-is_steady : (code : List Op) (fault : Option EntryFault) (entry : Option State) → IsSteady (λ steps. begun code steps fault entry)
-begun-is_steady code (Some _) entry = record { stays = λ m k le over. refl; grows = λ m k le. ([], refl) }
-begun-is_steady code None None = record { stays = λ m k le over. refl; grows = λ m k le. ([], refl) }
-begun-is_steady code None (Some state) = record { stays = λ m k le over. run-stays code m k [] state le over; grows = λ m k le. run-grows code m k [] state le }
-
-pub straight-is_steady : (program : Straight) (args : List Arg) (heap depth : ℕ) → IsSteady (straight_outcome program args heap depth)
-unfolding straight_outcome
-straight-is_steady program args heap depth = begun-is_steady program.code (straight_fault program args) (straight_entry args heap depth)
+pub outcome_from-is_steady : (code : List Op) (entry : Option State) → IsSteady (outcome_from code entry)
+unfolding outcome_from
+outcome_from-is_steady code None = record { stays = λ m k le over. refl; grows = λ m k le. ([], refl) }
+outcome_from-is_steady code (Some state) = record { stays = λ m k le over. run-stays code m k [] state le over; grows = λ m k le. run-grows code m k [] state le }
 
 -- without an activation the run ends at once
-pub straight-no_depth : (program : Straight) (args : List Arg) (heap steps : ℕ) → straight_fault program args ≡ None
-    → straight_outcome program args heap 0 steps ≡ record { printed = []; how = NoStore }
-unfolding straight_outcome
-straight-no_depth program args heap steps e = ap (λ fault. begun program.code steps fault None) e
+pub outcome_from-none : (code : List Op) (steps : ℕ) → outcome_from code None steps ≡ record { printed = []; how = NoStore }
+unfolding outcome_from
+outcome_from-none code steps = refl
 
 -- else it is that of the first state
-pub straight-runs : (program : Straight) (args : List Arg) (heap depth steps : ℕ) → straight_fault program args ≡ None
-    → straight_outcome program args heap (suc depth) steps ≡ run program.code steps [] (first_state args heap (suc depth))
-unfolding straight_outcome
-straight-runs program args heap depth steps e =
-    ap (λ fault. begun program.code steps fault (Some (first_state args heap (suc depth)))) e
+pub outcome_from-some : (code : List Op) (state : State) (steps : ℕ) → outcome_from code (Some state) steps ≡ run code steps [] state
+unfolding outcome_from
+outcome_from-some code state steps = refl

@@ -1,9 +1,9 @@
 -- Where a run begins, and the outcome of a whole run.
-use Rattle.std.specs.Prelude.{ℕ, zero, suc, ◌-◌, ℤ, pos, List, [], ◌∷◌, ◌++◌, length, replicate, Option, Some, None, ◌==◌, if◌then◌else◌}
+use Rattle.std.specs.Prelude.{ℕ, zero, suc, ◌-◌, ℤ, pos, List, [], ◌∷◌, ◌++◌, length, replicate, Option, Some, None, Result, Ok, Err, ◌==◌, if◌then◌else◌}
 use Rattle.xan_io.specs.declared.arg.Arg.{Arg}
 use Rattle.xan_io.specs.declared.arg.Arg.TheVariants.{Int, Bool, Array}
-use Rattle.xan_io.specs.Outcome.{NoStore, Stuck, Outcome}
-use Rattle.xan_io.specs.Entry.{EntryFault, ArgCount, ArgKind}
+use Rattle.xan_io.specs.Outcome.{NoStore, Outcome}
+use Rattle.xan_io.specs.Entry.{EntryFault, ArgCount, ArgKind, unless_faulty}
 use Rattle.dtal_code.specs.declared.op.Op.{Op}
 use Rattle.dtal_code.specs.declared.straight.Straight.{Straight}
 use Rattle.dtal_code.specs.Machine.{State, run, comes_to}
@@ -44,27 +44,30 @@ first_state args heap depth = record {
 }
 
 -- that state, where there may be an activation
-abbrev pub straight_entry : List Arg → ℕ → ℕ → Option State
-straight_entry args heap zero = None
-straight_entry args heap (suc depth) = Some (first_state args heap (suc depth))
+abbrev pub entry_state : List Arg → ℕ → ℕ → Option State
+entry_state args heap zero = None
+entry_state args heap (suc depth) = Some (first_state args heap (suc depth))
+
+-- How a run of the program begins: the first fault of the arguments, and then there is no run; or that state, where there is one.
+abbrev pub straight_entry : Straight → List Arg → ℕ → ℕ → Result (Option State) EntryFault
+straight_entry program args heap depth = unless_faulty (straight_fault program args) (entry_state args heap depth)
 
 -- ---- the whole run
 
--- the outcome of a run after so many steps, begun in this way
-abbrev pub begun : List Op → ℕ → Option EntryFault → Option State → Outcome
-begun code steps (Some _) entry = record { printed = []; how = Stuck }
-begun code steps None None = record { printed = []; how = NoStore }
-begun code steps None (Some state) = run code steps [] state
+-- the outcome, after so many steps, of a run that has begun; where no activation may be, it ends at once
+unfoldable pub outcome_from : List Op → Option State → ℕ → Outcome
+outcome_from code None steps = record { printed = []; how = NoStore }
+outcome_from code (Some state) steps = run code steps [] state
 
--- the outcome after so many steps of the program on these arguments, with so large a store and so many activations; of arguments
--- with a fault nothing is meant by it
-unfoldable pub straight_outcome : Straight → List Arg → ℕ → ℕ → ℕ → Outcome
-straight_outcome program args heap depth steps = begun program.code steps (straight_fault program args) (straight_entry args heap depth)
+abbrev pub outcomes : List Op → Result (Option State) EntryFault → Result (ℕ → Outcome) EntryFault
+outcomes code (Ok entry) = Ok (outcome_from code entry)
+outcomes code (Err fault) = Err fault
 
--- the state that this run has come to, where it goes on
-abbrev pub come_to : List Op → ℕ → Option State → Option State
-come_to code steps None = None
-come_to code steps (Some state) = comes_to code steps state
+-- the program's run on these arguments, with so large a store and so many activations: its outcome after each number of steps
+unfoldable pub straight_run : Straight → List Arg → ℕ → ℕ → Result (ℕ → Outcome) EntryFault
+straight_run program args heap depth = outcomes program.code (straight_entry program args heap depth)
 
-unfoldable pub straight_state : Straight → List Arg → ℕ → ℕ → ℕ → Option State
-straight_state program args heap depth steps = come_to program.code steps (straight_entry args heap depth)
+-- the state that a run has come to after so many steps, where it goes on
+unfoldable pub state_from : List Op → Option State → ℕ → Option State
+state_from code None steps = None
+state_from code (Some state) steps = comes_to code steps state

@@ -1,12 +1,11 @@
 -- Which addresses of the store a step touches, which are allocated, and which runs are safe.
-use Rattle.std.specs.Prelude.{◌≡◌, ◌≢◌, ℕ, ◌+◌, ◌<◌, ◌≤◌, ℤ, pos, List, [], ◌∷◌, ◌++◌, length, All, Option, None, Some, slice_get}
-use Rattle.xan_io.specs.declared.arg.Arg.{Arg}
+use Rattle.std.specs.Prelude.{◌≡◌, ◌≢◌, ℕ, ◌+◌, ◌<◌, ◌≤◌, ℤ, pos, List, [], ◌∷◌, ◌++◌, length, All, Option, None, Some, Result, Ok, Err, slice_get}
+use Rattle.xan_io.specs.Entry.{EntryFault}
 use Rattle.xan_io.specs.Outcome.{Stuck}
 use Rattle.dtal_code.specs.declared.op.Op.{Op}
 use Rattle.dtal_code.specs.declared.op.Op.TheVariants.{Li, Mv, Add, Sub, Ret, Print}
-use Rattle.dtal_code.specs.declared.straight.Straight.{Straight}
 use Rattle.dtal_code.specs.Machine.{Activation, State, Next, On, Off, step}
-use Rattle.dtal_code.specs.Entry.{straight_outcome, straight_state}
+use Rattle.dtal_code.specs.Entry.{outcome_from, state_from}
 
 -- ---- allocated addresses
 
@@ -75,8 +74,12 @@ pub record IsSafe (code : List Op) (state : State) : Type 0 where
   pub goes : step code state ≢ Off Stuck
   pub allocated : All (IsAllocated (words_after state (step code state))) (touched code state)
 
--- The program's run on these arguments, with so large a store and so many activations, is not stuck after so many steps, and the state
--- that it has come to, if it goes on, is safe.
-pub record IsSafeRun (program : Straight) (args : List Arg) (heap depth steps : ℕ) : Type 0 where
-  pub not_stuck : (straight_outcome program args heap depth steps).how ≢ Stuck
-  pub safe : (state : State) → straight_state program args heap depth steps ≡ Some state → IsSafe program.code state
+-- A run that has begun so is not stuck after so many steps, and the state that it has come to, if it goes on, is safe.
+pub record IsSafeRun (code : List Op) (entry : Option State) (steps : ℕ) : Type 0 where
+  pub not_stuck : (outcome_from code entry steps).how ≢ Stuck
+  pub safe : (state : State) → state_from code entry steps ≡ Some state → IsSafe code state
+
+-- The same of a run that may begin: arguments with a fault have none.
+abbrev pub RunsSafely : List Op → Result (Option State) EntryFault → ℕ → Type 0
+RunsSafely code (Ok entry) steps = IsSafeRun code entry steps
+RunsSafely code (Err fault) steps = Unit {0}

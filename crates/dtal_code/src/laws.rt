@@ -1,9 +1,10 @@
-ghost use Rattle.std.specs.Prelude.{◌≡◌, ℕ, List};
-ghost use Rattle.xan_io.specs.declared.arg.Arg.{Arg};
+ghost use Rattle.std.specs.Prelude.{◌≡◌, ℕ, List, Option};
 ghost use Rattle.xan_io.specs.Agreement.{IsSteady};
+ghost use Rattle.dtal_code.specs.declared.op.Op.{Op};
 ghost use Rattle.dtal_code.specs.declared.straight.Straight.{Straight};
+ghost use Rattle.dtal_code.specs.Machine.{State};
 ghost use Rattle.dtal_code.specs.Text.{Spells};
-ghost use Rattle.dtal_code.specs.Entry.{straight_outcome};
+ghost use Rattle.dtal_code.specs.Entry.{outcome_from};
 
 /// A text spells at most one straight program.
 pub fn one_program_a_text()
@@ -12,5 +13,5 @@ pub fn one_program_a_text()
 
 /// A run is steady: an end stays, and what was printed stays printed.
 pub fn straight_runs_are_steady()
-    ensures { (program : Straight) (args : List Arg) (heap depth : ℕ) → IsSteady (straight_outcome program args heap depth) }
+    ensures { (code : List Op) (entry : Option State) → IsSteady (outcome_from code entry) }
 {}

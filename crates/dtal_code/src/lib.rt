@@ -9,8 +9,6 @@ mod laws;
 mod op;
 mod print;
 mod straight;
-#[cfg(test)]
-mod tests;
 
 pub use laws::{one_program_a_text, straight_runs_are_steady};
 pub use op::Op;

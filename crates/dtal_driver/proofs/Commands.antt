@@ -1,9 +1,9 @@
 -- What comes of a command, from what came of its parts.
-use Rattle.std.proofs.Common.{◌≡◌, ◌∙◌, inl, inr, ℕ, ◌<◌, ◌≤◌, lit<, List, [], length, Option, None, Some, Result, Ok, Err, refl, sym, ap, subst, arith}
+use Rattle.std.proofs.Common.{◌≡◌, ◌≢◌, ◌∙◌, inl, inr, ℕ, ◌<◌, ◌≤◌, lit<, List, [], length, Option, None, Some, Result, Ok, Err, refl, sym, ap, subst, arith}
 use Rattle.std.specs.Prelude.{option_map, IfOk, IfErr}
 use Rattle.std.specs.Io.KnownBytes.{append_known}
 use Rattle.xan_io.specs.declared.arg.Arg.{Arg}
-use Rattle.xan_io.specs.Entry.{EntryFault}
+use Rattle.xan_io.specs.Entry.{EntryFault, unless_faulty}
 use Rattle.xan_io.specs.Entry as fault
 use Rattle.xan_io.specs.Faults.{Rose}
 use Rattle.xan_io.specs.Outcome.{How, Outcome}
@@ -12,9 +12,11 @@ use Rattle.xan_io.specs.Written.{AppendsPrefix}
 use Rattle.xan_io.proofs.Puts.{append_known-twice, prefix_behind, prefix_within}
 use Rattle.dtal_code.specs.declared.straight.Straight.{Straight}
 use Rattle.dtal_code.specs.Machine.{State}
-use Rattle.dtal_code.specs.Entry.{straight_fault, straight_entry, straight_outcome}
-use Rattle.dtal_machine.specs.Ending.{HasEnded}
-use Rattle.dtal_machine.specs.Loading.{begins, loaded}
+use Rattle.dtal_code.specs.Entry.{straight_fault, entry_state, straight_entry}
+use Rattle.dtal_machine.specs.Ending.{HasEnded, RunEnds}
+use Rattle.dtal_machine.specs.declared.loading.LoadError.{LoadError}
+use Rattle.dtal_machine.specs.declared.loading.LoadError.TheVariants as load
+use Rattle.dtal_machine.specs.Loading.{fault_error, begins, loaded, IsRunOf}
 use Rattle.dtal_machine.specs.Steps.{Loaded, run_on}
 use Rattle.dtal_machine.specs.Typing.{IsAccepted}
 use Rattle.dtal_machine.specs.declared.refusal.Where.{Where}
@@ -26,8 +28,8 @@ use Rattle.dtal_driver.specs.declared.answer.Answer.TheVariants as answer
 use Rattle.dtal_driver.specs.declared.run.End.{End}
 use Rattle.dtal_driver.specs.declared.run.End.TheVariants as ends
 use Rattle.dtal_driver.specs.Answers.{line_of, number_lines}
-use Rattle.dtal_driver.specs.Causes.{Accepts, IsRefusedText, Refuses, IsLoaded, IsFaulty, IsLoadedFrom, IsOfText, Cause, NoCommand, ReadFailed, Memory, Told, Says, Went, RunSaid}
-use Rattle.dtal_driver.specs.Report.{Report, plain, heap, depth, steps, end_of, how_of, answer_of, ended, unless_refused, fault_answer, unless_faulty, accepted_report, ReportsOf}
+use Rattle.dtal_driver.specs.Causes.{Accepts, IsRefusedText, Refuses, IsLoaded, HasFault, IsFaulty, IsLoadedFrom, IsOfText, Cause, NoCommand, ReadFailed, Memory, Told, Says, Went, RunSaid}
+use Rattle.dtal_driver.specs.Report.{Report, plain, heap, depth, steps, end_of, how_of, answer_of, ended, unless_refused, fault_answer, run_report, accepted_report, ReportsOf}
 use Rattle.dtal_driver.specs.Words.{Meant, Verify, Run, text_of}
 
 -- ---- a text
@@ -56,20 +58,11 @@ refuses-cause command content reads reads' (answer.EntryRow n) r = absurd r
 refuses-cause command content reads reads' (answer.Returned word) r = absurd r
 refuses-cause command content reads reads' answer.Overflow r = absurd r
 
-or_answer : Answer → Option Report → Answer
-or_answer said None = said
-or_answer said (Some report) = report.answer
-
 fault-of_text : (fault : EntryFault) → IsOfText (fault_answer fault)
 fault-of_text fault.ArgCount = tt
 fault-of_text (fault.ArgKind argument) = tt
 fault-of_text (fault.ArgIndex argument) = tt
 fault-of_text (fault.EntryRow row) = tt
-
-faulty-of_text : (found : Option EntryFault) (said : Answer) → ((more : Option Report) → unless_faulty found more ≡ Some (plain said)) → IsOfText said
-unfolding or_answer
-faulty-of_text None said is = let clash : None ≡ Some (plain said) = is None in cc
-faulty-of_text (Some fault) said is = subst IsOfText (ap (or_answer said) (is None)) (fault-of_text fault)
 
 module _ (content : List ℕ → Option (List ℕ)) (text : List ℕ) (program : Straight) (accepts : Accepts (content text) program) where
   -- the report of an accepted program is that of its text
@@ -99,8 +92,9 @@ module _ (content : List ℕ → Option (List ℕ)) (text : List ℕ) (program :
     faulty-cause reads reads' said (inr fault) = Told (record {
       command = Run text args;
       is = refl;
-      of_text = faulty-of_text (straight_fault program args) said fault;
-      told = λ bytes here. inr (of_accepted (Run text args) bytes (plain said) here (fault _));
+      of_text = subst IsOfText (sym fault.is) (fault-of_text fault.fault);
+      told = λ bytes here.
+          inr (of_accepted (Run text args) bytes (plain said) here (ap (run_report program.code) fault.found ∙ ap (λ a. Some (plain a)) (sym fault.is)));
     })
 
     pub loaded-from : (machine : Loaded) → IsLoaded program args machine → IsLoadedFrom text args (content text) machine
@@ -110,28 +104,71 @@ module _ (content : List ℕ → Option (List ℕ)) (text : List ℕ) (program :
       told = λ bytes here report is.
           inr
           (of_accepted (Run text args) bytes report here
-          (ap (λ fault. unless_faulty fault (ended (straight_outcome program args heap depth steps))) loads.no_fault ∙ ap ended loads.outcome ∙ is));
+          (ap (run_report program.code) loads.run.begins ∙ ap ended loads.run.is ∙ is));
     }
 
 -- ---- a machine
 
-no_fault : (program : Straight) (fault : Option EntryFault) (entry : Option State) (machine : Loaded) → begins program fault entry ≡ Ok machine → fault ≡ None
-no_fault program None entry machine e = refl
-no_fault program (Some fault) entry machine e = cc
+-- the run ends as the program's does
+ends_as : (program : Straight) (args : List Arg) (outcome : Outcome) → IsRunOf program args heap depth steps outcome
+    → RunEnds program.code (straight_entry program args heap depth) steps → HasEnded outcome.how
+ends_as program args outcome run ends =
+    let ended : RunEnds program.code (Ok run.entry) steps = subst (λ entry. RunEnds program.code entry steps) run.begins ends in
+    subst (λ (o : Outcome). HasEnded o.how) run.is ended
 
 pub loads : (program : Straight) (args : List Arg) (machine : Loaded) → IsAccepted program → length program.code ≤ 1000
     → loaded program args heap depth ≡ Ok machine → IsLoaded program args machine
 loads program args machine accepted few e =
-    let none = no_fault program (straight_fault program args) (straight_entry args heap depth) machine e in
-    let outcome = run-begins program args heap depth steps machine e in
+    let run = run-begins program args heap depth steps machine e in
     let some : 0 < depth = lit< tt in
     let long : length program.code ≤ steps = omega (arith, few) in
     record {
       live = run-live program args heap depth machine e;
-      ends = subst (λ (o : Outcome). HasEnded o.how) outcome (accepted-ends program args heap depth steps accepted none some long);
-      no_fault = none;
-      outcome = outcome;
+      ends = ends_as program args _ run (accepted-ends program args heap depth steps accepted some long);
+      run = run;
     }
+
+-- what is answered of an error
+abbrev error_answer : LoadError → Answer
+error_answer load.ArgCount = answer.ArgCount
+error_answer (load.ArgKind argument) = answer.ArgKind argument
+error_answer (load.ArgIndex argument) = answer.ArgIndex argument
+error_answer (load.EntryRow row) = answer.EntryRow row
+error_answer load.NoStore = answer.Memory
+error_answer load.Memory = answer.Memory
+
+fault_error-answer : (fault : EntryFault) → error_answer (fault_error fault) ≡ fault_answer fault
+fault_error-answer fault.ArgCount = refl
+fault_error-answer (fault.ArgKind argument) = refl
+fault_error-answer (fault.ArgIndex argument) = refl
+fault_error-answer (fault.EntryRow row) = refl
+
+fault_error-no_store : (fault : EntryFault) → fault_error fault ≡ load.NoStore → ⊥
+fault_error-no_store fault.ArgCount e = cc
+fault_error-no_store (fault.ArgKind argument) e = cc
+fault_error-no_store (fault.ArgIndex argument) e = cc
+fault_error-no_store (fault.EntryRow row) e = cc
+
+faulty-from : (program : Straight) (args : List Arg) (entry : Result (Option State) EntryFault) (error : LoadError) → straight_entry program args heap depth ≡ entry
+    → begins program entry ≡ Err error → error ≢ load.NoStore → HasFault program args (error_answer error)
+faulty-from program args (Ok None) error is e other = let clash : load.NoStore ≡ error = cc in absurd (other (sym clash))
+faulty-from program args (Ok (Some state)) error is e other = cc
+faulty-from program args (Err fault) error is e other =
+    let same : fault_error fault ≡ error = cc in
+    record { fault = fault; found = is; is = ap error_answer (sym same) ∙ fault_error-answer fault }
+
+-- an error of a load that is no want of an activation is the fault of the arguments
+pub faulty : (program : Straight) (args : List Arg) (error : LoadError) → loaded program args heap depth ≡ Err error → error ≢ load.NoStore
+    → IsFaulty program args (error_answer error)
+faulty program args error e other = inr (faulty-from program args (straight_entry program args heap depth) error refl e other)
+
+has_store-from : (program : Straight) (args : List Arg) (found : Option EntryFault) → begins program (unless_faulty found (entry_state args heap depth)) ≡ Err load.NoStore → ⊥
+has_store-from program args None e = cc
+has_store-from program args (Some fault) e = let same : fault_error fault ≡ load.NoStore = cc in fault_error-no_store fault same
+
+-- there may be activations
+pub has_store : (program : Straight) (args : List Arg) → loaded program args heap depth ≡ Err load.NoStore → ⊥
+has_store program args e = has_store-from program args (straight_fault program args) e
 
 -- ---- a run
 
@@ -150,18 +187,18 @@ end_is how.NoStore ended = absurd ended
 end_is how.Stuck ended = absurd ended
 end_is how.Running ended = absurd ended
 
-abbrev run_report : Outcome → End → Report
-run_report outcome end = record { printed = outcome.printed; answer = answer_of end }
+abbrev report_of_end : Outcome → End → Report
+report_of_end outcome end = record { printed = outcome.printed; answer = answer_of end }
 
-ended-report : (outcome : Outcome) (end : End) → outcome.how ≡ how_of end → ended outcome ≡ Some (run_report outcome end)
-ended-report outcome end e = ap (λ o. option_map (run_report outcome) o) (ap end_of e ∙ end_of-how end)
+ended-report : (outcome : Outcome) (end : End) → outcome.how ≡ how_of end → ended outcome ≡ Some (report_of_end outcome end)
+ended-report outcome end e = ap (λ o. option_map (report_of_end outcome) o) (ap end_of e ∙ end_of-how end)
 
 module _ (outcome : Outcome) (out mid out' : Option (List ℕ)) (status faults faults' : ℕ) where
   -- the numbers are put, and then this of the line of the end
   pub run-said : (end : End) (between : ℕ) → outcome.how ≡ how_of end → mid ≡ append_known out (number_lines outcome.printed) → between ≡ faults
       → Says (plain (answer_of end)) status between faults' mid out' → RunSaid outcome status faults faults' out out'
   run-said end between is numbers counted (inl all) = record {
-    report = run_report outcome end;
+    report = report_of_end outcome end;
     is = ended-report outcome end is;
     of_text = end-of_text end;
     said = inl
@@ -173,7 +210,7 @@ module _ (outcome : Outcome) (out mid out' : Option (List ℕ)) (status faults f
         });
   }
   run-said end between is numbers counted (inr part) = record {
-    report = run_report outcome end;
+    report = report_of_end outcome end;
     is = ended-report outcome end is;
     of_text = end-of_text end;
     said = inr
@@ -191,7 +228,7 @@ module _ (outcome : Outcome) (out mid out' : Option (List ℕ)) (status faults f
   run-cut over four part rose =
       let end = end_is outcome.how over in
       record {
-        report = run_report outcome end.0;
+        report = report_of_end outcome end.0;
         is = ended-report outcome end.0 end.1;
         of_text = end-of_text end.0;
         said = inr (record { status_is = four; part = prefix_within out out' (number_lines outcome.printed) (line_of (answer_of end.0)) part; rose = rose });

@@ -1,10 +1,11 @@
 -- What each status of a text promises, from how its report comes.
-use Rattle.std.proofs.Common.{◌≡◌, ◌≢◌, ◌∙◌, ◌⊎◌, inl, inr, ⊎_elim, ℕ, List, length, Option, None, Some, sym, ap, subst, arith}
+use Rattle.std.proofs.Common.{◌≡◌, ◌≢◌, ◌∙◌, ◌⊎◌, inl, inr, ⊎_elim, ℕ, List, length, Option, None, Some, Ok, sym, ap, subst, arith}
 use Rattle.std.specs.Io.KnownBytes.{append_known}
 use Rattle.xan_io.specs.declared.arg.Arg.{Arg}
 use Rattle.dtal_code.specs.declared.straight.Straight.{Straight}
 use Rattle.dtal_text.specs.StraightText.{IsStraightText}
-use Rattle.dtal_code.specs.Entry.{straight_fault, straight_outcome}
+use Rattle.dtal_code.specs.Entry.{straight_entry, outcome_from}
+use Rattle.dtal_code.specs.Machine.{State}
 use Rattle.dtal_machine.specs.Refusal.{IsRefused, refusal}
 use Rattle.dtal_machine.specs.Typing.{IsAccepted}
 use Rattle.dtal_machine.specs.declared.refusal.Where.{Where}
@@ -36,7 +37,7 @@ module _ (command : Meant) (bytes : List ℕ) (report : Report) (program : Strai
   not_twenty (Refuses at rule refused is) e = omega (arith, own _ is, e)
   not_twenty (Accepts name verifies none is) e = omega (arith, own _ is, e)
   not_twenty (IsFaulty name args fault runs none found is) e = omega (arith, own _ is, e, fault-twelve fault)
-  not_twenty (Runs name args end runs none no_fault how is) e =
+  not_twenty (Runs name args entry end runs none begins how is) e =
       ⊎_elim (λ zero. omega (arith, own _ is, e, zero)) (λ fourteen. omega (arith, own _ is, e, fourteen)) (end-status end)
 
   module _ (out out' : Option (List ℕ)) (said : out' ≡ append_known out (report_text report)) where
@@ -54,7 +55,7 @@ module _ (command : Meant) (bytes : List ℕ) (report : Report) (program : Strai
     }
     refused_at (Accepts name verifies none is) e = absurd (omega (arith, own _ is, e))
     refused_at (IsFaulty name args fault runs none found is) e = absurd (omega (arith, own _ is, e, fault-twelve fault))
-    refused_at (Runs name args end runs none no_fault how is) e =
+    refused_at (Runs name args entry end runs none begins how is) e =
         absurd (⊎_elim (λ zero. omega (arith, own _ is, e, zero)) (λ fourteen. omega (arith, own _ is, e, fourteen)) (end-status end))
 
     faulty_at : Way command program report → status_of report.answer ≡ 12 → FaultyAt command bytes out out'
@@ -71,20 +72,21 @@ module _ (command : Meant) (bytes : List ℕ) (report : Report) (program : Strai
       found = found;
       said = says _ is;
     }
-    faulty_at (Runs name args end runs none no_fault how is) e =
+    faulty_at (Runs name args entry end runs none begins how is) e =
         absurd (⊎_elim (λ zero. omega (arith, own _ is, e, zero)) (λ fourteen. omega (arith, own _ is, e, fourteen)) (end-status end))
 
-    ran_to : (name : List ℕ) (args : List Arg) (end : End) → command ≡ Run name args → refusal program ≡ None → straight_fault program args ≡ None
-        → (straight_outcome program args heap depth steps).how ≡ how_of end
-        → report ≡ record { printed = (straight_outcome program args heap depth steps).printed; answer = answer_of end } → RanTo command bytes end out out'
-    ran_to name args end runs none no_fault how is = record {
+    ran_to : (name : List ℕ) (args : List Arg) (entry : Option State) (end : End) → command ≡ Run name args → refusal program ≡ None
+        → straight_entry program args heap depth ≡ Ok entry → (outcome_from program.code entry steps).how ≡ how_of end
+        → report ≡ record { printed = (outcome_from program.code entry steps).printed; answer = answer_of end } → RanTo command bytes end out out'
+    ran_to name args entry end runs none begins how is = record {
       name = name;
       args = args;
       is = runs;
       program = program;
       text = text;
       accepted = none-accepted program text.spells.straight none;
-      no_fault = no_fault;
+      entry = entry;
+      begins = begins;
       ends = how;
       said = says _ is;
     }
@@ -93,8 +95,8 @@ module _ (command : Meant) (bytes : List ℕ) (report : Report) (program : Strai
     ran_to_overflow (Refuses at rule refused is) e = absurd (omega (arith, own _ is, e))
     ran_to_overflow (Accepts name verifies none is) e = absurd (omega (arith, own _ is, e))
     ran_to_overflow (IsFaulty name args fault runs none found is) e = absurd (omega (arith, own _ is, e, fault-twelve fault))
-    ran_to_overflow (Runs name args end runs none no_fault how is) e =
-        subst (λ x. RanTo command bytes x out out') (end-overflow end (sym (own _ is) ∙ e)) (ran_to name args end runs none no_fault how is)
+    ran_to_overflow (Runs name args entry end runs none begins how is) e =
+        subst (λ x. RanTo command bytes x out out') (end-overflow end (sym (own _ is) ∙ e)) (ran_to name args entry end runs none begins how is)
 
     ran : (name : List ℕ) (args : List Arg) → command ≡ Run name args → Way command program report
         → (status_of report.answer ≡ 0) ⊎ (status_of report.answer ≡ 14) → Ran command bytes (status_of report.answer) out out'
@@ -103,8 +105,8 @@ module _ (command : Meant) (bytes : List ℕ) (report : Report) (program : Strai
     ran name args runs' (Accepts other verifies none is) e = absurd (verify_no_run other name args (sym verifies ∙ runs'))
     ran name args runs' (IsFaulty other others fault runs none found is) e =
         absurd (⊎_elim (λ zero. omega (arith, own _ is, zero, fault-twelve fault)) (λ fourteen. omega (arith, own _ is, fourteen, fault-twelve fault)) e)
-    ran name args runs' (Runs other others end runs none no_fault how is) e =
-        record { end = end; status_is = own _ is; ran = ran_to other others end runs none no_fault how is }
+    ran name args runs' (Runs other others entry end runs none begins how is) e =
+        record { end = end; status_is = own _ is; ran = ran_to other others entry end runs none begins how is }
 
     accepted_text : (name : List ℕ) → command ≡ Verify name → Way command program report → status_of report.answer ≡ 0 → AcceptedText bytes out out'
     accepted_text name verifies' (Refuses at rule refused is) e = absurd (omega (arith, own _ is, e))
@@ -114,11 +116,11 @@ module _ (command : Meant) (bytes : List ℕ) (report : Report) (program : Strai
           program = program;
           text = text;
           accepted = accepted;
-          safe = λ args heap depth steps no_fault. accepted-runs_safely program args heap depth steps accepted no_fault;
+          safe = λ args heap depth steps. accepted-runs_safely program args heap depth steps accepted;
           said = says _ is;
         }
     accepted_text name verifies' (IsFaulty other others fault runs none found is) e = absurd (omega (arith, own _ is, e, fault-twelve fault))
-    accepted_text name verifies' (Runs other others end runs none no_fault how is) e = absurd (verify_no_run name other others (sym verifies' ∙ runs))
+    accepted_text name verifies' (Runs other others entry end runs none begins how is) e = absurd (verify_no_run name other others (sym verifies' ∙ runs))
 
 -- ---- a report of a text
 

@@ -1,5 +1,5 @@
 -- What a report says of the program: the four ways in which one comes, and that a text has one.
-use Rattle.std.proofs.Common.{◌≡◌, ◌∙◌, inl, inr, ℕ, ℤ, List, length, Option, None, Some, refl, sym, ap}
+use Rattle.std.proofs.Common.{◌≡◌, ◌∙◌, inl, inr, ℕ, ℤ, List, length, Option, None, Some, Result, Ok, Err, refl, sym, ap}
 use Rattle.std.specs.Prelude.{option_map}
 use Rattle.std.proofs.lemmas.Option.{none-some}
 use Rattle.xan_io.specs.declared.arg.Arg.{Arg}
@@ -7,7 +7,8 @@ use Rattle.xan_io.specs.Entry.{EntryFault}
 use Rattle.xan_io.specs.Outcome.{How, Outcome}
 use Rattle.xan_io.specs.Outcome as how
 use Rattle.dtal_code.specs.declared.straight.Straight.{Straight}
-use Rattle.dtal_code.specs.Entry.{straight_fault, straight_outcome}
+use Rattle.dtal_code.specs.Entry.{straight_entry, outcome_from}
+use Rattle.dtal_code.specs.Machine.{State}
 use Rattle.dtal_code.specs.Text.{Spells}
 use Rattle.dtal_machine.specs.Refusal.{refusal}
 use Rattle.dtal_machine.specs.declared.refusal.Where.{Where}
@@ -17,7 +18,7 @@ use Rattle.dtal_machine.specs.declared.refusal.VerifyError.TheVariants as verify
 use Rattle.dtal_driver.specs.declared.answer.Answer.TheVariants as answer
 use Rattle.dtal_driver.specs.declared.run.End.{End}
 use Rattle.dtal_driver.specs.declared.run.End.TheVariants as ends
-use Rattle.dtal_driver.specs.Report.{Report, plain, heap, depth, steps, end_of, how_of, answer_of, ended, unless_refused, fault_answer, unless_faulty, accepted_report, program_report, ReportsOf, Reports}
+use Rattle.dtal_driver.specs.Report.{Report, plain, heap, depth, steps, end_of, how_of, answer_of, ended, unless_refused, fault_answer, run_report, accepted_report, program_report, ReportsOf, Reports}
 use Rattle.dtal_driver.specs.Words.{Meant, Verify, Run}
 
 -- ---- one report
@@ -50,11 +51,11 @@ one_report one command bytes a b (inr r) (inr s) = one_of one command bytes a b 
 pub data Way (command : Meant) (program : Straight) (report : Report) : Type 0 where
   Refuses : (at : Where) (rule : Rule) → (refusal program ≡ Some (verify.Refused at rule)) → (report ≡ plain (answer.Refused at rule)) → Way command program report
   Accepts : (name : List ℕ) → (command ≡ Verify name) → (refusal program ≡ None) → (report ≡ plain (answer.Accepted (length program.code))) → Way command program report
-  IsFaulty : (name : List ℕ) (args : List Arg) (fault : EntryFault) → (command ≡ Run name args) → (refusal program ≡ None) → (straight_fault program args ≡ Some fault)
+  IsFaulty : (name : List ℕ) (args : List Arg) (fault : EntryFault) → (command ≡ Run name args) → (refusal program ≡ None) → (straight_entry program args heap depth ≡ Err fault)
       → (report ≡ plain (fault_answer fault)) → Way command program report
-  Runs : (name : List ℕ) (args : List Arg) (end : End) → (command ≡ Run name args) → (refusal program ≡ None) → (straight_fault program args ≡ None)
-      → ((straight_outcome program args heap depth steps).how ≡ how_of end)
-      → (report ≡ record { printed = (straight_outcome program args heap depth steps).printed; answer = answer_of end }) → Way command program report
+  Runs : (name : List ℕ) (args : List Arg) (entry : Option State) (end : End) → (command ≡ Run name args) → (refusal program ≡ None) → (straight_entry program args heap depth ≡ Ok entry)
+      → ((outcome_from program.code entry steps).how ≡ how_of end)
+      → (report ≡ record { printed = (outcome_from program.code entry steps).printed; answer = answer_of end }) → Way command program report
 
 end-way : (printed : List ℤ) (how : How) (report : Report) → option_map (λ end. record { printed = printed; answer = answer_of end }) (end_of how) ≡ Some report
     → (end : End) × (how ≡ how_of end) × (report ≡ record { printed = printed; answer = answer_of end })
@@ -64,19 +65,18 @@ end-way printed how.NoStore report e = absurd (none-some report e)
 end-way printed how.Stuck report e = absurd (none-some report e)
 end-way printed how.Running report e = absurd (none-some report e)
 
-run-way : (program : Straight) (name : List ℕ) (args : List Arg) (report : Report) (none : refusal program ≡ None) (found : Option EntryFault)
-    → straight_fault program args ≡ found → unless_faulty found (ended (straight_outcome program args heap depth steps)) ≡ Some report
-    → Way (Run name args) program report
-run-way program name args report none None no_fault e =
-    let outcome = straight_outcome program args heap depth steps in
+run-way : (program : Straight) (name : List ℕ) (args : List Arg) (report : Report) (none : refusal program ≡ None) (found : Result (Option State) EntryFault)
+    → straight_entry program args heap depth ≡ found → run_report program.code found ≡ Some report → Way (Run name args) program report
+run-way program name args report none (Ok entry) begins e =
+    let outcome = outcome_from program.code entry steps in
     let way = end-way outcome.printed outcome.how report e in
-    Runs name args way.0 refl none no_fault way.1 way.2
-run-way program name args report none (Some fault) found e = IsFaulty name args fault refl none found (sym (one_some _ report e))
+    Runs name args entry way.0 refl none begins way.1 way.2
+run-way program name args report none (Err fault) found e = IsFaulty name args fault refl none found (sym (one_some _ report e))
 
 accepted-way : (command : Meant) (program : Straight) (report : Report) → refusal program ≡ None → accepted_report command program ≡ Some report
     → Way command program report
 accepted-way (Verify name) program report none e = Accepts name refl none (sym (one_some _ report e))
-accepted-way (Run name args) program report none e = run-way program name args report none (straight_fault program args) refl e
+accepted-way (Run name args) program report none e = run-way program name args report none (straight_entry program args heap depth) refl e
 
 refusal-way : (command : Meant) (program : Straight) (report : Report) (refused : Option VerifyError) → refusal program ≡ refused
     → unless_refused refused (accepted_report command program) ≡ Some report → Way command program report

@@ -1,5 +1,6 @@
 -- Why a text gives an accepted program, or an answer in its place.
-use Rattle.std.specs.Prelude.{◌≡◌, ◌≤◌, ◌⊎◌, ℕ, List, [], length, Option, Some, None}
+use Rattle.std.specs.Prelude.{◌≡◌, ◌≤◌, ◌⊎◌, ℕ, List, [], length, Option, Some, None, Err}
+use Rattle.xan_io.specs.Entry.{EntryFault}
 use Rattle.xan_io.specs.Faults.{Rose}
 use Rattle.xan_io.specs.Outcome.{Outcome}
 use Rattle.dtal_code.specs.declared.straight.Straight.{Straight}
@@ -14,11 +15,12 @@ use Rattle.dtal_driver.specs.declared.answer.Answer.TheVariants as answer
 use Rattle.xan_io.specs.declared.arg.Arg.{Arg}
 use Rattle.xan_io.specs.Written.{AppendsPrefix}
 use Rattle.std.specs.Io.KnownBytes.{append_known}
-use Rattle.dtal_code.specs.Entry.{straight_fault, straight_outcome}
+use Rattle.dtal_code.specs.Entry.{straight_entry}
 use Rattle.dtal_machine.specs.Ending.{HasEnded}
+use Rattle.dtal_machine.specs.Loading.{IsRunOf}
 use Rattle.dtal_machine.specs.Steps.{Loaded, IsLive, run_on}
 use Rattle.dtal_driver.specs.Answers.{status_of}
-use Rattle.dtal_driver.specs.Report.{IsNoText, Report, Reports, plain, heap, depth, steps, ended, unless_faulty, report_text}
+use Rattle.dtal_driver.specs.Report.{IsNoText, Report, Reports, plain, heap, depth, steps, ended, fault_answer, report_text}
 use Rattle.dtal_driver.specs.Words.{Meant, Run, text_of}
 
 -- the bytes are the text of this program, which is accepted
@@ -57,16 +59,21 @@ Refuses content faults faults' _ = ⊥
 
 -- ---- machines
 
--- the machine is at the start of the program's run on these arguments, which have no fault, and this run ends
+-- the machine is at the start of the program's run on these arguments, and this run ends
 pub record IsLoaded (program : Straight) (args : List Arg) (machine : Loaded) : Type 0 where
   pub live : IsLive machine.now
   pub ends : HasEnded (run_on machine steps []).how
-  pub no_fault : straight_fault program args ≡ None
-  pub outcome : straight_outcome program args heap depth steps ≡ run_on machine steps []
+  pub run : IsRunOf program args heap depth steps (run_on machine steps [])
+
+-- the arguments have this first fault
+pub record HasFault (program : Straight) (args : List Arg) (said : Answer) : Type 0 where
+  pub fault : EntryFault
+  pub found : straight_entry program args heap depth ≡ Err fault
+  pub is : said ≡ fault_answer fault
 
 -- the answer is the first fault of the arguments, or memory ran out
 abbrev pub IsFaulty : Straight → List Arg → Answer → Type 0
-IsFaulty program args said = (said ≡ answer.Memory) ⊎ ((more : Option Report) → unless_faulty (straight_fault program args) more ≡ Some (plain said))
+IsFaulty program args said = (said ≡ answer.Memory) ⊎ HasFault program args said
 
 -- the machine is at the start of a run, and where the content is told, its run is reported of the text
 pub record IsLoadedFrom (text : List ℕ) (args : List Arg) (content : Option (List ℕ)) (machine : Loaded) : Type 0 where

@@ -1,13 +1,14 @@
 -- What a status of the whole program promises: of the text, of what was said, and of the runs of its program.
-use Rattle.std.specs.Prelude.{◌≡◌, ◌==◌, ℕ, List, [], ◌∷◌, ◌++◌, length, Option, Some, None, IsTrue}
+use Rattle.std.specs.Prelude.{◌≡◌, ◌==◌, ℕ, List, [], ◌∷◌, ◌++◌, length, Option, Some, Ok, Err, IsTrue}
 use Rattle.std.specs.Io.KnownBytes.{append_known}
 use Rattle.std.specs.List.{list_any}
 use Rattle.xan_io.specs.declared.arg.Arg.{Arg}
 use Rattle.xan_io.specs.Entry.{EntryFault}
 use Rattle.xan_io.specs.Written.{AppendsPrefix}
 use Rattle.dtal_code.specs.declared.straight.Straight.{Straight}
-use Rattle.dtal_code.specs.Entry.{straight_fault, straight_outcome}
-use Rattle.dtal_code.specs.Touched.{IsSafeRun}
+use Rattle.dtal_code.specs.Entry.{straight_entry, outcome_from}
+use Rattle.dtal_code.specs.Machine.{State}
+use Rattle.dtal_code.specs.Touched.{RunsSafely}
 use Rattle.dtal_machine.specs.Refusal.{IsRefused}
 use Rattle.dtal_machine.specs.Typing.{IsAccepted}
 use Rattle.dtal_machine.specs.declared.refusal.Where.{Where}
@@ -54,7 +55,7 @@ pub record FaultyAt (command : Meant) (bytes : List ℕ) (out out' : Option (Lis
   pub text : IsStraightText bytes program
   pub accepted : IsAccepted program
   pub fault : EntryFault
-  pub found : straight_fault program args ≡ Some fault
+  pub found : straight_entry program args heap depth ≡ Err fault
   pub said : out' ≡ append_known out (line_of (fault_answer fault))
 
 -- The program of the text is accepted, and its run on the arguments has ended so: the lines are the numbers that it printed, and then
@@ -66,9 +67,10 @@ pub record RanTo (command : Meant) (bytes : List ℕ) (end : End) (out out' : Op
   pub program : Straight
   pub text : IsStraightText bytes program
   pub accepted : IsAccepted program
-  pub no_fault : straight_fault program args ≡ None
-  pub ends : (straight_outcome program args heap depth steps).how ≡ how_of end
-  pub said : out' ≡ append_known out (number_lines (straight_outcome program args heap depth steps).printed ++ line_of (answer_of end))
+  pub entry : Option State
+  pub begins : straight_entry program args heap depth ≡ Ok entry
+  pub ends : (outcome_from program.code entry steps).how ≡ how_of end
+  pub said : out' ≡ append_known out (number_lines (outcome_from program.code entry steps).printed ++ line_of (answer_of end))
 
 -- in one way or the other
 pub record Ran (command : Meant) (bytes : List ℕ) (status : ℕ) (out out' : Option (List ℕ)) : Type 0 where
@@ -81,7 +83,7 @@ pub record AcceptedText (bytes : List ℕ) (out out' : Option (List ℕ)) : Type
   pub program : Straight
   pub text : IsStraightText bytes program
   pub accepted : IsAccepted program
-  pub safe : (args : List Arg) (heap depth steps : ℕ) → straight_fault program args ≡ None → IsSafeRun program args heap depth steps
+  pub safe : (args : List Arg) (heap depth steps : ℕ) → RunsSafely program.code (straight_entry program args heap depth) steps
   pub said : out' ≡ append_known out (accepted_line (length program.code))
 
 -- ---- of what was said

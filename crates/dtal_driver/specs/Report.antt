@@ -1,9 +1,11 @@
 -- What a command reports of the text that its name holds: the numbers that it prints, and then its answer.
-use Rattle.std.specs.Prelude.{◌≡◌, ℕ, ℤ, List, [], ◌++◌, length, Option, Some, None, option_map, ◌⊎◌}
+use Rattle.std.specs.Prelude.{◌≡◌, ℕ, ℤ, List, [], ◌++◌, length, Option, Some, None, Result, Ok, Err, option_map, ◌⊎◌}
 use Rattle.xan_io.specs.Entry as fault
 use Rattle.xan_io.specs.Outcome as how
+use Rattle.dtal_code.specs.declared.op.Op.{Op}
+use Rattle.dtal_code.specs.Machine.{State}
 use Rattle.dtal_code.specs.declared.straight.Straight.{Straight}
-use Rattle.dtal_code.specs.Entry.{straight_fault, straight_outcome}
+use Rattle.dtal_code.specs.Entry.{straight_entry, outcome_from}
 use Rattle.dtal_text.specs.StraightText.{IsStraightText}
 use Rattle.dtal_machine.specs.Refusal.{refusal}
 use Rattle.dtal_machine.specs.declared.refusal.VerifyError.{VerifyError}
@@ -74,15 +76,15 @@ fault_answer (fault.ArgKind argument) = answer.ArgKind argument
 fault_answer (fault.ArgIndex argument) = answer.ArgIndex argument
 fault_answer (fault.EntryRow row) = answer.EntryRow row
 
--- the first fault of the arguments, if there is one, and else what follows
-abbrev pub unless_faulty : Option fault.EntryFault → Option Report → Option Report
-unless_faulty None more = more
-unless_faulty (Some fault) more = Some (plain (fault_answer fault))
+-- what is reported of a run that may begin: the fault of the arguments, or what its outcome gives
+abbrev pub run_report : List Op → Result (Option State) fault.EntryFault → Option Report
+run_report code (Err fault) = Some (plain (fault_answer fault))
+run_report code (Ok entry) = ended (outcome_from code entry steps)
 
 -- what the command reports of an accepted program
 abbrev pub accepted_report : Meant → Straight → Option Report
 accepted_report (Verify text) program = Some (plain (answer.Accepted (length program.code)))
-accepted_report (Run text args) program = unless_faulty (straight_fault program args) (ended (straight_outcome program args heap depth steps))
+accepted_report (Run text args) program = run_report program.code (straight_entry program args heap depth)
 
 -- and of any program
 abbrev pub program_report : Meant → Straight → Option Report

@@ -1,5 +1,5 @@
 -- A machine's steps, one after another, are the program's run: for whoever runs a machine.
-use Rattle.std.proofs.Common.{◌≡◌, ℕ, suc, ℤ, List, [], ◌∷◌, ◌++◌, Option, Some, None, Ok, Err, refl, sym, ap, subst, ◌∙◌, append-nil}
+use Rattle.std.proofs.Common.{◌≡◌, ℕ, suc, ℤ, List, [], ◌∷◌, ◌++◌, Option, Some, None, Result, Ok, Err, refl, sym, ap, subst, ◌∙◌, append-nil}
 use Rattle.std.proofs.lemmas.Option.{none-some}
 use Rattle.xan_io.specs.declared.arg.Arg.{Arg}
 use Rattle.xan_io.specs.Entry.{EntryFault}
@@ -9,27 +9,27 @@ use Rattle.xan_io.specs.Outcome as how
 use Rattle.dtal_code.specs.declared.op.Op.{Op}
 use Rattle.dtal_code.specs.declared.straight.Straight.{Straight}
 use Rattle.dtal_code.specs.Machine.{State, Next, On, Off, run, after}
-use Rattle.dtal_code.specs.Entry.{begun, straight_fault, straight_entry, straight_outcome}
-use Rattle.dtal_code.proofs.Steps.{run-zero}
+use Rattle.dtal_code.specs.Entry.{straight_entry}
+use Rattle.dtal_code.proofs.Steps.{run-zero, outcome_from-none, outcome_from-some}
 use Rattle.dtal_machine.specs.declared.event.Event.{Event}
 use Rattle.dtal_machine.specs.declared.event.Event.TheVariants.{Going, Print, Returned, NoStore, Overflow}
 use Rattle.dtal_machine.specs.declared.loading.LoadError.TheVariants as load
 use Rattle.dtal_machine.specs.Steps.{Loaded, Now, Live, Over, IsLive, steps_from, stepped, now_after, moved, end_event, event, run_from, run_on}
-use Rattle.dtal_machine.specs.Loading.{fault_error, begins, loaded}
+use Rattle.dtal_machine.specs.Loading.{fault_error, begins, loaded, IsRunOf}
 
 -- ---- the entry
 
-begins-run : (program : Straight) (fault : Option EntryFault) (entry : Option State) (steps : ℕ) (machine : Loaded) → begins program fault entry ≡ Ok machine
-    → begun program.code steps fault entry ≡ run_on machine steps []
-begins-run program None None steps machine e = cc
-begins-run program None (Some state) steps machine e =
-    let same : record { code = program.code; now = Live state } ≡ machine = cc in ap (λ (m : Loaded). run_on m steps []) same
-begins-run program (Some fault) entry steps machine e = cc
+begins-run : (program : Straight) (args : List Arg) (heap depth steps : ℕ) (entry : Result (Option State) EntryFault) (machine : Loaded)
+    → straight_entry program args heap depth ≡ entry → begins program entry ≡ Ok machine → IsRunOf program args heap depth steps (run_on machine steps [])
+begins-run program args heap depth steps (Ok None) machine is e = cc
+begins-run program args heap depth steps (Ok (Some state)) machine is e =
+    let same : record { code = program.code; now = Live state } ≡ machine = cc in
+    record { entry = Some state; begins = is; is = outcome_from-some program.code state steps ∙ ap (λ (m : Loaded). run_on m steps []) same }
+begins-run program args heap depth steps (Err fault) machine is e = cc
 
 pub run-begins : (program : Straight) (args : List Arg) (heap depth steps : ℕ) (machine : Loaded) → loaded program args heap depth ≡ Ok machine
-    → straight_outcome program args heap depth steps ≡ run_on machine steps []
-unfolding straight_outcome
-run-begins program args heap depth steps machine e = begins-run program (straight_fault program args) (straight_entry args heap depth) steps machine e
+    → IsRunOf program args heap depth steps (run_on machine steps [])
+run-begins program args heap depth steps machine e = begins-run program args heap depth steps (straight_entry program args heap depth) machine refl e
 
 no_fault_is_store : (fault : EntryFault) → fault_error fault ≡ load.NoStore → ⊥
 no_fault_is_store fault.ArgCount e = cc
@@ -37,25 +37,25 @@ no_fault_is_store (fault.ArgKind argument) e = cc
 no_fault_is_store (fault.ArgIndex argument) e = cc
 no_fault_is_store (fault.EntryRow row) e = cc
 
-begins-without : (program : Straight) (fault : Option EntryFault) (entry : Option State) (steps : ℕ) → begins program fault entry ≡ Err load.NoStore
-    → begun program.code steps fault entry ≡ record { printed = []; how = how.NoStore }
-begins-without program None None steps e = refl
-begins-without program None (Some state) steps e = cc
-begins-without program (Some fault) entry steps e = let clash : fault_error fault ≡ load.NoStore = cc in absurd (no_fault_is_store fault clash)
+begins-without : (program : Straight) (args : List Arg) (heap depth steps : ℕ) (entry : Result (Option State) EntryFault)
+    → straight_entry program args heap depth ≡ entry → begins program entry ≡ Err load.NoStore
+    → IsRunOf program args heap depth steps (record { printed = []; how = how.NoStore })
+begins-without program args heap depth steps (Ok None) is e = record { entry = None; begins = is; is = outcome_from-none program.code steps }
+begins-without program args heap depth steps (Ok (Some state)) is e = cc
+begins-without program args heap depth steps (Err fault) is e = let clash : fault_error fault ≡ load.NoStore = cc in absurd (no_fault_is_store fault clash)
 
 pub run-without_store : (program : Straight) (args : List Arg) (heap depth steps : ℕ) → loaded program args heap depth ≡ Err load.NoStore
-    → straight_outcome program args heap depth steps ≡ record { printed = []; how = how.NoStore }
-unfolding straight_outcome
-run-without_store program args heap depth steps e = begins-without program (straight_fault program args) (straight_entry args heap depth) steps e
+    → IsRunOf program args heap depth steps (record { printed = []; how = how.NoStore })
+run-without_store program args heap depth steps e = begins-without program args heap depth steps (straight_entry program args heap depth) refl e
 
-begins-live : (program : Straight) (fault : Option EntryFault) (entry : Option State) (machine : Loaded) → begins program fault entry ≡ Ok machine → IsLive machine.now
-begins-live program None None machine e = cc
-begins-live program None (Some state) machine e =
+begins-live : (program : Straight) (entry : Result (Option State) EntryFault) (machine : Loaded) → begins program entry ≡ Ok machine → IsLive machine.now
+begins-live program (Ok None) machine e = cc
+begins-live program (Ok (Some state)) machine e =
     let same : record { code = program.code; now = Live state } ≡ machine = cc in subst (λ (m : Loaded). IsLive m.now) same tt
-begins-live program (Some fault) entry machine e = cc
+begins-live program (Err fault) machine e = cc
 
 pub run-live : (program : Straight) (args : List Arg) (heap depth : ℕ) (machine : Loaded) → loaded program args heap depth ≡ Ok machine → IsLive machine.now
-run-live program args heap depth machine e = begins-live program (straight_fault program args) (straight_entry args heap depth) machine e
+run-live program args heap depth machine e = begins-live program (straight_entry program args heap depth) machine e
 
 -- ---- steps
 
@@ -155,10 +155,8 @@ pub record Stands (whole : Outcome) (machine : Loaded) (left : ℕ) (printed : L
   pub so_far : run_on machine left printed ≡ whole
   pub live : IsLive machine.now
 
-pub stands-begins : (program : Straight) (args : List Arg) (heap depth steps : ℕ) (machine : Loaded) → loaded program args heap depth ≡ Ok machine
-    → Stands (straight_outcome program args heap depth steps) machine steps []
-stands-begins program args heap depth steps machine e =
-    record { so_far = sym (run-begins program args heap depth steps machine e); live = run-live program args heap depth machine e }
+pub stands-begins : (machine : Loaded) (steps : ℕ) → IsLive machine.now → Stands (run_on machine steps []) machine steps []
+stands-begins machine steps live = record { so_far = refl; live = live }
 
 module _ (whole : Outcome) (machine : Loaded) (left : ℕ) (printed : List ℤ) (stands : Stands whole machine left printed) where
   -- no step is left

@@ -1,10 +1,11 @@
 -- Runs of an accepted program: each state on the way fits, so that it is safe, and each step but the last moves on by one instruction.
-use Rattle.std.proofs.Common.{◌≡◌, ◌≢◌, ℕ, zero, suc, ◌+◌, ◌<◌, ◌≤◌, ℤ, ◌+ℤ◌, ◌-ℤ◌, Bool, true, false, IsTrue, FitsSigned, ⊎_elim, List, [], ◌∷◌, ◌++◌, length, Option, Some, None, option_to_list, slice_get, slice_set, All, refl, sym, ap, subst, ◌∙◌, arith, length-append, get_or-set_other, ◌&&◌}
+use Rattle.std.proofs.Common.{◌≡◌, ◌≢◌, ℕ, zero, suc, ◌+◌, ◌<◌, ◌≤◌, ℤ, ◌+ℤ◌, ◌-ℤ◌, Bool, true, false, IsTrue, FitsSigned, ⊎_elim, List, [], ◌∷◌, ◌++◌, length, Option, Some, None, Result, Ok, Err, option_to_list, slice_get, slice_set, All, refl, sym, ap, subst, ◌∙◌, arith, length-append, get_or-set_other, ◌&&◌}
 use Rattle.std.proofs.lemmas.Bool.{cases_lt, cases_Bool, and_parts}
 use Rattle.std.proofs.lemmas.List.{length-replicate}
 use Rattle.std.proofs.lemmas.List.Elements.{All-nil}
 use Rattle.std.proofs.lemmas.Option.{none-some, slice_get_within, get_or_from_slice_get}
 use Rattle.std.specs.Int.{w64}
+use Rattle.xan_io.specs.Entry.{EntryFault, unless_faulty}
 use Rattle.xan_io.specs.Outcome.{How, Returned, Stuck, NoStore, Overflow, Running}
 use Rattle.xan_io.specs.declared.arg.Arg.{Arg}
 use Rattle.dtal_code.specs.declared.op.Op.{Op}
@@ -12,13 +13,13 @@ use Rattle.dtal_code.specs.declared.op.Op.TheVariants.{Li, Mv, Add, Sub, Ret, Pr
 use Rattle.dtal_code.specs.declared.straight.Straight.{Straight}
 use Rattle.dtal_code.specs.Text.{IsOp, IsLast, EndsLast}
 use Rattle.dtal_code.specs.Machine.{Activation, State, Next, On, Off, step, run, after, goes_to, comes_to, moved_on, goes_on, fits_word}
-use Rattle.dtal_code.specs.Entry.{places_of, arg_words, straight_fault, first_state, straight_outcome, straight_state}
-use Rattle.dtal_code.specs.Touched.{touches, touched_at, touched_by, touched, words_after, IsAllocated, IsSafe, IsSafeRun}
-use Rattle.dtal_code.proofs.Steps.{length-put, get_within, length-places_of, fits_word-true, fits_word-fits, step-li, step-mv, step-add, step-add_overflow, step-sub, step-sub_overflow, step-print, step-ret_first, straight-no_depth, straight-runs}
+use Rattle.dtal_code.specs.Entry.{places_of, arg_words, straight_fault, first_state, entry_state, straight_entry, outcome_from, state_from}
+use Rattle.dtal_code.specs.Touched.{touches, touched_at, touched_by, touched, words_after, IsAllocated, IsSafe, IsSafeRun, RunsSafely}
+use Rattle.dtal_code.proofs.Steps.{length-put, get_within, length-places_of, fits_word-true, fits_word-fits, step-li, step-mv, step-add, step-add_overflow, step-sub, step-sub_overflow, step-print, step-ret_first}
 use Rattle.dtal_code.proofs.Arguments.{length-arg_words, fault-none_count}
 use Rattle.dtal_machine.specs.Typing.{has_type, first_types, types_after, reads_typed, IsAccepted}
 use Rattle.dtal_machine.specs.Fits.{Fits}
-use Rattle.dtal_machine.specs.Ending.{HasEnded}
+use Rattle.dtal_machine.specs.Ending.{HasEnded, RunEnds}
 use Rattle.dtal_machine.proofs.Typings.{there_is}
 
 -- ---- code
@@ -252,33 +253,50 @@ module _ (program : Straight) (accepted : IsAccepted program) where
             let lt = typed_within (first_types program.params) place typed in omega (arith, all, types);
       }
 
-outcome_never_stuck : (program : Straight) (args : List Arg) (heap depth steps : ℕ) → IsAccepted program → straight_fault program args ≡ None
-    → (straight_outcome program args heap depth steps).how ≢ Stuck
-outcome_never_stuck program args heap zero steps accepted none = λ e. let clash : NoStore ≡ Stuck = sym (ap (λ o. o.how) (straight-no_depth program args heap steps none)) ∙ e in cc
-outcome_never_stuck program args heap (suc depth) steps accepted none =
-    λ e. run_never_stuck program accepted steps [] (first_state args heap (suc depth)) (first_fits program accepted args heap (suc depth) none)
-    (sym (ap (λ o. o.how) (straight-runs program args heap depth steps none)) ∙ e)
+-- an entry state is the first state of arguments without a fault
+entered : (program : Straight) (args : List Arg) (heap depth : ℕ) (state : State) (found : Option EntryFault) → straight_fault program args ≡ found
+    → unless_faulty found (entry_state args heap depth) ≡ Ok (Some state) → (straight_fault program args ≡ None) × (first_state args heap depth ≡ state)
+entered program args heap zero state None is e = cc
+entered program args heap (suc depth) state None is e = (is, cc)
+entered program args heap depth state (Some fault) is e = cc
 
-come_to_safe : (program : Straight) (args : List Arg) (heap depth steps : ℕ) → IsAccepted program → straight_fault program args ≡ None
-    → (state : State) → straight_state program args heap depth steps ≡ Some state → IsSafe program.code state
-unfolding straight_state
-come_to_safe program args heap zero steps accepted none state e = absurd (none-some state e)
-come_to_safe program args heap (suc depth) steps accepted none state e =
-    comes_to_safe program accepted steps (first_state args heap (suc depth)) (first_fits program accepted args heap (suc depth) none) state e
+pub entry_fits : (program : Straight) (accepted : IsAccepted program) (args : List Arg) (heap depth : ℕ) (state : State)
+    → straight_entry program args heap depth ≡ Ok (Some state) → Fits program accepted.before state
+entry_fits program accepted args heap depth state e =
+    let first = entered program args heap depth state (straight_fault program args) refl e in
+    subst (Fits program accepted.before) first.1 (first_fits program accepted args heap depth first.0)
 
-pub accepted-runs_safely : (program : Straight) (args : List Arg) (heap depth steps : ℕ) → IsAccepted program → straight_fault program args ≡ None
-    → IsSafeRun program args heap depth steps
-accepted-runs_safely program args heap depth steps accepted none = record {
-  not_stuck = outcome_never_stuck program args heap depth steps accepted none;
-  safe = come_to_safe program args heap depth steps accepted none;
+entry_safe : (program : Straight) (accepted : IsAccepted program) (steps : ℕ) (entry : Option State)
+    → ((state : State) → entry ≡ Some state → Fits program accepted.before state) → IsSafeRun program.code entry steps
+unfolding outcome_from state_from
+entry_safe program accepted steps None fits = record { not_stuck = λ e. cc; safe = λ state e. absurd (none-some state e) }
+entry_safe program accepted steps (Some first) fits = record {
+  not_stuck = run_never_stuck program accepted steps [] first (fits first refl);
+  safe = comes_to_safe program accepted steps first (fits first refl);
 }
 
+runs_safely : (program : Straight) (accepted : IsAccepted program) (args : List Arg) (heap depth steps : ℕ) (entry : Result (Option State) EntryFault)
+    → straight_entry program args heap depth ≡ entry → RunsSafely program.code entry steps
+runs_safely program accepted args heap depth steps (Err fault) is = tt
+runs_safely program accepted args heap depth steps (Ok entry) is =
+    entry_safe program accepted steps entry (λ state e. entry_fits program accepted args heap depth state (is ∙ ap Ok e))
+
+pub accepted-runs_safely : (program : Straight) (args : List Arg) (heap depth steps : ℕ) → IsAccepted program
+    → RunsSafely program.code (straight_entry program args heap depth) steps
+accepted-runs_safely program args heap depth steps accepted = runs_safely program accepted args heap depth steps (straight_entry program args heap depth) refl
+
 -- where there may be an activation, the run ends within as many steps as there are instructions
-pub accepted-ends : (program : Straight) (args : List Arg) (heap depth steps : ℕ) → IsAccepted program → straight_fault program args ≡ None
-    → 0 < depth → length program.code ≤ steps → HasEnded (straight_outcome program args heap depth steps).how
-accepted-ends program args heap zero steps accepted none some long = absurd (omega arith)
-accepted-ends program args heap (suc depth) steps accepted none some long =
-    let fits = first_fits program accepted args heap (suc depth) none in
+run_ends_from : (program : Straight) (args : List Arg) (heap depth steps : ℕ) → IsAccepted program → 0 < depth → length program.code ≤ steps
+    → (found : Option EntryFault) → straight_fault program args ≡ found → RunEnds program.code (unless_faulty found (entry_state args heap depth)) steps
+unfolding outcome_from
+run_ends_from program args heap depth steps accepted some long (Some fault) is = tt
+run_ends_from program args heap zero steps accepted some long None is = absurd (omega arith)
+run_ends_from program args heap (suc depth) steps accepted some long None is =
+    let fits = first_fits program accepted args heap (suc depth) is in
     let enough : length program.code ≤ fits.top.at + steps = omega (arith, long) in
-    subst (λ o. HasEnded o.how) (sym (straight-runs program args heap depth steps none))
-    (run_ends program accepted steps [] (first_state args heap (suc depth)) fits enough)
+    run_ends program accepted steps [] (first_state args heap (suc depth)) fits enough
+
+pub accepted-ends : (program : Straight) (args : List Arg) (heap depth steps : ℕ) → IsAccepted program
+    → 0 < depth → length program.code ≤ steps → RunEnds program.code (straight_entry program args heap depth) steps
+accepted-ends program args heap depth steps accepted some long =
+    run_ends_from program args heap depth steps accepted some long (straight_fault program args) refl

@@ -1,8 +1,8 @@
 ghost use Rattle.std.specs.Prelude.{◌≡◌, ℕ, ◌≤◌, ◌<◌, ◌^◌, List, codes, bytes_eq, length, IfOk, IfErr, None};
 ghost use Rattle.xan_io.specs.declared.arg.Arg.{Arg};
 ghost use Rattle.dtal_code.specs.Text.{IsStraight};
-ghost use Rattle.dtal_code.specs.Entry.{straight_fault};
-ghost use Rattle.dtal_code.specs.Touched.{IsSafeRun};
+ghost use Rattle.dtal_code.specs.Entry.{straight_entry};
+ghost use Rattle.dtal_code.specs.Touched.{RunsSafely};
 ghost use Rattle.dtal_machine.specs.Typing.{first_types, types_after, reads_typed, IsAccepted};
 ghost use Rattle.dtal_machine.specs.Refusal.{IsRefused, first_untyped, refusal, Verdict};
 
@@ -57,8 +57,8 @@ pub fn verify(alloc: Global, program: Straight) -> Result<Verified, VerifyError>
     ensures exact { Verdict (refusal program) result }
     ensures refused { (at : Where) (rule : Rule) → result ≡ Err (VerifyError.Refused at rule) → IsRefused program at rule }
     ensures accepted { IfOk result (λ verified. (verified ≡ program) × IsAccepted program) }
-    ensures safe { IfOk result (λ verified. (args : List Arg) (heap depth steps : ℕ) → straight_fault program args ≡ None
-        → IsSafeRun program args heap depth steps) }
+    ensures safe { IfOk result (λ verified. (args : List Arg) (heap depth steps : ℕ)
+        → RunsSafely program.code (straight_entry program args heap depth) steps) }
 {
     match check(alloc, &program) {
         Ok(()) => Ok(Verified { program }),

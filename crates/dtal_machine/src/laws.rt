@@ -3,13 +3,13 @@ ghost use Rattle.xan_io.specs.declared.arg.Arg.{Arg};
 ghost use Rattle.xan_io.specs.Outcome.{Running, Returned, NoStore, Overflow, Outcome};
 ghost use Rattle.dtal_code.specs.declared.straight.Straight.{Straight};
 ghost use Rattle.dtal_code.specs.Machine.{State, On, step};
-ghost use Rattle.dtal_code.specs.Entry.{straight_fault, straight_outcome, first_state};
-ghost use Rattle.dtal_code.specs.Touched.{IsSafe, IsSafeRun};
-ghost use Rattle.dtal_machine.specs.Ending.{HasEnded};
+ghost use Rattle.dtal_code.specs.Entry.{straight_entry};
+ghost use Rattle.dtal_code.specs.Touched.{IsSafe, RunsSafely};
+ghost use Rattle.dtal_machine.specs.Ending.{RunEnds};
 ghost use Rattle.dtal_machine.specs.Typing.{IsAccepted};
 ghost use Rattle.dtal_machine.specs.Refusal.{IsRefused, refusal};
 ghost use Rattle.dtal_machine.specs.Steps.{Loaded, IsLive, event, stepped, moved, run_on};
-ghost use Rattle.dtal_machine.specs.Loading.{loaded};
+ghost use Rattle.dtal_machine.specs.Loading.{loaded, IsRunOf};
 ghost use Rattle.dtal_code.specs.Text.{IsStraight};
 ghost use Rattle.dtal_machine.specs.Fits.{Fits};
 
@@ -35,12 +35,12 @@ pub fn refusal_is_the_first()
 /// The run of a loaded machine is the program's run, and each step takes it on by what its event says: for whoever runs a machine.
 pub fn steps_make_the_run()
     ensures begins { (program : Straight) (args : List Arg) (heap depth steps : ℕ) (machine : Loaded) → loaded program args heap depth ≡ Ok machine
-        → straight_outcome program args heap depth steps ≡ run_on machine steps [] }
+        → IsRunOf program args heap depth steps (run_on machine steps []) }
     ensures live { (program : Straight) (args : List Arg) (heap depth : ℕ) (machine : Loaded) → loaded program args heap depth ≡ Ok machine
         → IsLive machine.now }
     ensures spent { (machine : Loaded) (printed : List ℤ) → IsLive machine.now → run_on machine 0 printed ≡ record { printed = printed; how = Running } }
     ensures without_store { (program : Straight) (args : List Arg) (heap depth steps : ℕ) → loaded program args heap depth ≡ Err LoadError.NoStore
-        → straight_outcome program args heap depth steps ≡ record { printed = []; how = NoStore } }
+        → IsRunOf program args heap depth steps (record { printed = []; how = NoStore }) }
     ensures going { (machine : Loaded) (steps : ℕ) (printed : List ℤ) → event (stepped machine) ≡ Some Event.Going
         → (run_on machine (suc steps) printed ≡ run_on (moved machine) steps printed) × IsLive (moved machine).now }
     ensures print { (machine : Loaded) (steps : ℕ) (printed : List ℤ) (number : ℤ) → event (stepped machine) ≡ Some (Event.Print number)
@@ -53,10 +53,10 @@ pub fn steps_make_the_run()
         → run_on machine (suc steps) printed ≡ record { printed = printed; how = Overflow } }
 {}
 
-/// The first state of a run on arguments without a fault is one that a run of the accepted program passes.
+/// The state in which a run begins is one that a run of the accepted program passes.
 pub fn entry_fits()
-    ensures { (program : Straight) (accepted : IsAccepted program) (args : List Arg) (heap depth : ℕ) → straight_fault program args ≡ None
-        → Fits program accepted.before (first_state args heap depth) }
+    ensures { (program : Straight) (accepted : IsAccepted program) (args : List Arg) (heap depth : ℕ) (state : State)
+        → straight_entry program args heap depth ≡ Ok (Some state) → Fits program accepted.before state }
 {}
 
 /// A state that a run of an accepted program passes is safe: it stands at an instruction, its step is not stuck, and each address that
@@ -74,13 +74,13 @@ pub fn preservation()
 
 /// No run of an accepted program is ever stuck, and each state that it comes to is safe.
 pub fn accepted_programs_are_safe()
-    ensures { (program : Straight) (args : List Arg) (heap depth steps : ℕ) → IsAccepted program → straight_fault program args ≡ None
-        → IsSafeRun program args heap depth steps }
+    ensures { (program : Straight) (args : List Arg) (heap depth steps : ℕ) → IsAccepted program
+        → RunsSafely program.code (straight_entry program args heap depth) steps }
 {}
 
 /// A run of an accepted program ends by an instruction, after at most as many steps as there are instructions, unless there may be no
 /// activation.
 pub fn accepted_programs_end()
-    ensures { (program : Straight) (args : List Arg) (heap depth steps : ℕ) → IsAccepted program → straight_fault program args ≡ None
-        → 0 < depth → length program.code ≤ steps → HasEnded (straight_outcome program args heap depth steps).how }
+    ensures { (program : Straight) (args : List Arg) (heap depth steps : ℕ) → IsAccepted program
+        → 0 < depth → length program.code ≤ steps → RunEnds program.code (straight_entry program args heap depth) steps }
 {}

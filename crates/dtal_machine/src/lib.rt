@@ -12,8 +12,6 @@ mod laws;
 mod loading;
 mod machine;
 mod refusal;
-#[cfg(test)]
-mod tests;
 
 pub use acceptance::{Verified, verify};
 pub use event::Event;

@@ -2,7 +2,7 @@
 --
 -- A family of outcomes says how far a run has come with n units: of fuel for a source program, of steps for a machine. The two count
 -- differently, so that families are compared by their ends and by what they print, and not unit by unit.
-use Rattle.std.specs.Prelude.{◌≡◌, ℕ, ℤ, ◌≤◌, List, ◌++◌, Option, None}
+use Rattle.std.specs.Prelude.{◌≡◌, ℕ, ℤ, ◌≤◌, List, ◌++◌, Result, Ok, Err}
 use Rattle.xan_io.specs.declared.arg.Arg.{Arg}
 use Rattle.xan_io.specs.Outcome.{Running, Outcome, IsOver}
 use Rattle.xan_io.specs.Entry.{EntryFault, IsRun}
@@ -33,9 +33,13 @@ pub record Follows (machine : ℕ → Outcome) (n : ℕ) (outcome : Outcome) : T
   pub same : machine steps ≡ outcome
   pub as_long : outcome.how ≡ Running → n ≤ steps
 
--- Two programs agree: the same fault of the same arguments, and where there is none, runs that agree for each size of the store and
--- each depth.
-pub record Agree (source_fault machine_fault : List Arg → Option EntryFault)
-    (source machine : List Arg → ℕ → ℕ → ℕ → Outcome) : Type 0 where
-  pub faults : (args : List Arg) (heap depth : ℕ) → IsRun args heap depth → source_fault args ≡ machine_fault args
-  pub runs : (args : List Arg) (heap depth : ℕ) → IsRun args heap depth → source_fault args ≡ None → Agrees (source args heap depth) (machine args heap depth)
+-- Two runs begin alike: with the same fault of the arguments, and else they agree.
+abbrev pub BeginAlike : Result (ℕ → Outcome) EntryFault → Result (ℕ → Outcome) EntryFault → Type 0
+BeginAlike (Err fault) (Err fault') = fault ≡ fault'
+BeginAlike (Ok source) (Ok machine) = Agrees source machine
+BeginAlike (Err _) (Ok _) = ⊥
+BeginAlike (Ok _) (Err _) = ⊥
+
+-- Two programs agree: their runs begin alike on all arguments, for each size of the store and each depth.
+abbrev pub Agree : (source machine : List Arg → (heap depth : ℕ) → Result (ℕ → Outcome) EntryFault) → Type 0
+Agree source machine = (args : List Arg) (heap depth : ℕ) → IsRun args heap depth → BeginAlike (source args heap depth) (machine args heap depth)

@@ -1,5 +1,5 @@
 -- What may be wrong with the arguments of a run, and what is asked of every run.
-use Rattle.std.specs.Prelude.{ℕ, ℤ, ◌-◌, ◌^◌, ◌≤◌, List, [], ◌∷◌, FitsSigned}
+use Rattle.std.specs.Prelude.{ℕ, ℤ, ◌-◌, ◌^◌, ◌≤◌, List, [], ◌∷◌, Option, Some, None, Result, Ok, Err, FitsSigned}
 use Rattle.std.specs.Int.{w64}
 use Rattle.xan_io.specs.declared.arg.Arg.{Arg}
 use Rattle.xan_io.specs.declared.arg.Arg.TheVariants.{Int, Bool, Array}
@@ -10,6 +10,11 @@ pub data EntryFault : Type 0 where
   ArgKind : (argument : ℕ) → EntryFault
   ArgIndex : (argument : ℕ) → EntryFault
   EntryRow : (row : ℕ) → EntryFault
+
+-- A run begins so where the arguments have no fault. Where they have one there is no run, but the fault.
+abbrev pub unless_faulty : {A : Type 0} → Option EntryFault → A → Result A EntryFault
+unless_faulty None run = Ok run
+unless_faulty (Some fault) run = Err fault
 
 -- numbers that a word of the machine holds
 abbrev pub AreWords : List ℤ → Type 0

@@ -8,3 +8,5 @@ pub mod InMemory
 pub mod Listed
 pub mod ListedPuts
 pub mod Arguments
+pub mod Words
+pub mod Lines

@@ -1,6 +1,9 @@
 use crate::memory::Memory;
 use std::alloc::Global;
 
+/// The most bytes that a read may ask for.
+pub const READ_MOST: u64 = 1_099_511_627_776;
+
 /// What a read gives.
 #[derive(Drop)]
 pub enum FileRead {
@@ -46,6 +49,7 @@ pub trait Files {
       IfOk,
       IsErrOf,
     };
+    ghost use Rattle.xan_io.specs.declared.files.TheConstants.{READ_MOST};
     ghost use Rattle.xan_io.specs.Faults.{Rose, SameCounts, NoneFalls};
     ghost use Rattle.xan_io.specs.Contents.{ReadsAs, LeavesPrefix, replaced};
 
@@ -60,7 +64,7 @@ pub trait Files {
 
     /// The content of `name`, placed by `alloc`, if it has at most `most` bytes. No content changes.
     fn read(&mut self, alloc: Global, name: &str, most: u64) -> Result<FileRead, FileFault>
-        requires { most ≤ 1099511627776 }
+        requires { most ≤ READ_MOST }
         ensures read { IfOk result (ReadsAs (content self.old name.now) most) }
         ensures unchanged { (other : List ℕ) → content self.new other ≡ content self.old other }
         ensures failed { IsErrOf result FileFault.Failed → Rose (read_faults self.old name.now) (read_faults self.new name.now) }

@@ -1,4 +1,5 @@
 ghost use Rattle.std.specs.Prelude.{◌≡◌, ◌≤◌, None, IfOk};
+ghost use Rattle.xan_io.specs.declared.files.TheConstants.{READ_MOST};
 ghost use Rattle.xan_io.specs.Contents.{ReadsAs};
 
 use crate::files::{FileFault, FileRead, Files};
@@ -32,7 +33,7 @@ fn read_up_to<R: rt::Files>(
     name: &str,
     most: u64,
 ) -> Result<FileRead, io::Error>
-    requires { most ≤ 1099511627776 }
+    requires { most ≤ READ_MOST }
     ensures { IfOk result (ReadsAs None most) }
 {
     let mut bytes = Vec::new(alloc);
@@ -43,7 +44,7 @@ fn read_up_to<R: rt::Files>(
     Ok(FileRead::Whole(bytes))
 }
 
-/// Want of memory is no fault of the file: nothing was changed, and the caller may free some and read again.
+/// Running out of memory is no fault of the file: nothing was changed, and the caller may free some and read again.
 fn fault_of_read(error: io::Error) -> FileFault {
     match error.kind() {
         ErrorKind::OutOfMemory => FileFault::Memory,
@@ -60,7 +61,7 @@ impl<R: rt::Files> Files for HostFiles<'_, R> {
 
     ghost write_faults = { λ files _. files.faults };
 
-    /// `Failed` where the host answered an error, unless it was want of memory.
+    /// `Failed` where the host answered an error, unless memory ran out.
     fn read(&mut self, alloc: Global, name: &str, most: u64) -> Result<FileRead, FileFault> {
         let outcome = read_up_to(self.rt, alloc, name, most).map_err(fault_of_read);
         if let Err(FileFault::Failed) = outcome {
@@ -78,32 +79,5 @@ impl<R: rt::Files> Files for HostFiles<'_, R> {
                 Err(FileFault::Failed)
             }
         }
-    }
-}
-
-#[cfg(test)]
-mod tests {
-    use super::*;
-    use crate::tests::{is_failed, is_too_long, is_whole};
-    use std::env;
-    use std::test::Fail;
-
-    #[test]
-    fn counts_each_fault(rt: HostRuntime) -> Result<(), Fail> {
-        let alloc = rt.alloc();
-        let mut path = env::temp_dir(&rt)?;
-        path.push("xan_io_host_files")?;
-        let name = path.to_str().ok_or("the path is text")?;
-        let mut files = HostFiles::new(&rt);
-        assert!(rt; files.write(alloc, name, b"abcde").is_ok());
-        assert!(rt; is_whole(files.read(alloc, name, 5), b"abcde"));
-        assert!(rt; is_too_long(files.read(alloc, name, 4)));
-        assert!(rt; files.write(alloc, name, b"xy").is_ok());
-        assert!(rt; is_whole(files.read(alloc, name, 5), b"xy"));
-        assert_eq!(rt; files.faults, 0);
-        fs::remove_file(&rt, name)?;
-        assert!(rt; is_failed(files.read(alloc, name, 5)));
-        assert_eq!(rt; files.faults, 1);
-        Ok(())
     }
 }

@@ -69,6 +69,7 @@ impl Files for MemFiles {
       IfOk,
       IsErrOf,
     };
+    ghost use Rattle.xan_io.specs.declared.files.TheConstants.{READ_MOST};
     ghost use Rattle.xan_io.specs.Contents.{ReadsAs};
     ghost use Rattle.xan_io.specs.Faults.{raised};
     ghost use Rattle.xan_io.specs.InMemory.{stored, told, SameFiles, SameOthers};
@@ -82,7 +83,7 @@ impl Files for MemFiles {
 
     /// Fails exactly where the call is listed or there is no such file.
     fn read(&mut self, alloc: Global, name: &str, most: u64) -> Result<FileRead, FileFault>
-        requires { most ≤ 1099511627776 }
+        requires { most ≤ READ_MOST }
         ensures read { IfOk result (ReadsAs (told self.old.store name.now) most) }
         ensures failed { IsErrOf result FileFault.Failed ↔ IsTrue (read_fails self.old name.now) }
         ensures unchanged { SameFiles self.old.store self.new.store }

@@ -52,6 +52,7 @@ impl Files for SafeFiles {
       IfErr,
       OnErr,
     };
+    ghost use Rattle.xan_io.specs.declared.files.TheConstants.{READ_MOST};
     ghost use Rattle.xan_io.specs.Contents.{ReadsAs};
     ghost use Rattle.xan_io.specs.InMemory.{stored, told, SameFiles, SameOthers};
 
@@ -63,7 +64,7 @@ impl Files for SafeFiles {
 
     /// Never fails.
     fn read(&mut self, alloc: Global, name: &str, most: u64) -> Result<FileRead, FileFault>
-        requires { most ≤ 1099511627776 }
+        requires { most ≤ READ_MOST }
         ensures read { IfOk result (ReadsAs (told self.old.store name.now) most) }
         ensures memory { IfErr result (λ fault. fault ≡ FileFault.Memory) }
         ensures unchanged { SameFiles self.old.store self.new.store }

@@ -1,24 +1,25 @@
 -- The code of a small program does what the program does.
-use Rattle.std.proofs.Common.{◌≡◌, ◌≢◌, ℕ, zero, suc, ◌+◌, ◌<◌, ◌≤◌, ℤ, Bool, true, false, cond, ◌==◌, List, [], ◌∷◌, ◌++◌, map, length, Some, None, slice_get, slice_set, refl, sym, ap, ◌∙◌, subst, inl, inr, arith, append_assoc}
+use Rattle.std.proofs.Common.{◌≡◌, ◌≢◌, ℕ, zero, suc, ◌+◌, ◌<◌, ◌≤◌, ℤ, Bool, true, false, cond, ◌==◌, List, [], ◌∷◌, ◌++◌, map, length, Option, Some, None, slice_get, slice_set, refl, sym, ap, ◌∙◌, subst, inl, inr, arith, append_assoc}
 use Rattle.std.specs.List.{range_with_len}
 use Rattle.std.proofs.lemmas.Bool.{cases_lt}
 use Rattle.std.proofs.lemmas.Bool.Decides.{nat_tests}
 use Rattle.std.proofs.lemmas.List.FromFn.{length-map-range_with_len}
 use Rattle.xan_io.specs.declared.arg.Arg.{Arg}
 use Rattle.xan_io.specs.declared.arg.Arg.TheVariants as arg
-use Rattle.xan_io.specs.Entry.{ArgCount}
-use Rattle.xan_io.specs.Outcome.{How, Returned, Overflow, Running}
-use Rattle.xan_io.specs.Agreement.{Agree, Follows}
+use Rattle.xan_io.specs.Entry.{EntryFault, ArgCount, unless_faulty}
+use Rattle.xan_io.specs.Outcome.{How, Returned, Overflow, Running, Outcome}
+use Rattle.xan_io.specs.Agreement.{Agree, Agrees, BeginAlike, Follows}
 use Rattle.xan_io.proofs.Simulation.{agrees}
 use Rattle.dtal_code.specs.declared.op.Op.{Op as Instr}
 use Rattle.dtal_code.specs.declared.op.Op.TheVariants as instr
-use Rattle.dtal_code.specs.Entry.{kind_fault, straight_fault, arg_words, places_of, straight_outcome}
+use Rattle.dtal_code.specs.Entry.{kind_fault, straight_fault, arg_words, places_of, first_state, entry_state, outcome_from, outcomes, straight_run}
+use Rattle.dtal_code.specs.Machine.{State}
 use Rattle.dtal_code.proofs.Alone.{alone, alone-mv, alone-ret}
 use Rattle.dtal_code.proofs.Arguments.{length-arg_words, fault-none_count}
-use Rattle.dtal_code.proofs.Steps.{length-put, get-put_same, get-put_other, get_within, length-places_of, get-places_of, Goes, goes-none, goes-then, goes-ends, straight-is_steady, straight-no_depth, straight-runs}
+use Rattle.dtal_code.proofs.Steps.{length-put, get-put_same, get-put_other, get_within, length-places_of, get-places_of, Goes, goes-none, goes-then, goes-ends, outcome_from-is_steady, outcome_from-none, outcome_from-some}
 use Rattle.xanadu_tree.specs.Plain as plain
 use Rattle.xanadu_tree.specs.Small.{int_of, number_program, IsSum, IsOperand, AreSumLinks}
-use Rattle.xanadu_driver.specs.Meaning.{Computed, Number, Overflows, Undefined, and_then, known, operator, value, links_value, how_of, kinds_fault, source_fault, source_outcome}
+use Rattle.xanadu_driver.specs.Meaning.{Computed, Number, Overflows, Undefined, and_then, known, operator, value, links_value, how_of, kinds_fault, source_fault, source_outcome, source_run}
 use Rattle.xanadu_driver.specs.Lowering.{slot, item_place, item_code, on_places, right_temporary, links_code, links_place, sum_code, sum_place, function_code, straight_of}
 use Rattle.xanadu_driver.proofs.Stretches.{Stands, stands_behind, Moved, Ends, Gives, item_moves, Ran, operator_runs}
 
@@ -308,11 +309,11 @@ faults_same count sum return_at at args =
 
 pub follows : (count : ℕ) (sum : plain.Expr) (return_at at : ℕ) (args : List Arg) (heap depth fuel : ℕ) → count ≤ 8 → IsSum count sum
     → straight_fault (straight_of count sum) args ≡ None
-    → Follows (straight_outcome (straight_of count sum) args heap depth) fuel (source_outcome (number_program count sum return_at at) args heap depth fuel)
+    → Follows (outcome_from (straight_of count sum).code (entry_state args heap depth)) fuel (source_outcome (number_program count sum return_at at) (arg_words args) heap depth fuel)
 unfolding source_outcome
 follows count sum return_at at args heap zero fuel few is fault = record {
   steps = 0;
-  same = straight-no_depth (straight_of count sum) args heap 0 fault;
+  same = outcome_from-none (straight_of count sum).code 0;
   as_long = λ e. cc;
 }
 follows count sum return_at at args heap (suc depth) fuel few is fault =
@@ -325,18 +326,25 @@ follows count sum return_at at args heap (suc depth) fuel few is fault =
     subst (λ n. Ends (function_code n sum) heap (suc depth) 0 (places_of env) (how_of (value env sum))) many ends in
     record {
       steps = code_is.steps;
-      same = straight-runs (straight_of count sum) args heap depth code_is.steps fault ∙ code_is.is;
+      same = outcome_from-some (straight_of count sum).code (first_state args heap (suc depth)) code_is.steps ∙ code_is.is;
       as_long = λ e. absurd (how_over (value env sum) e);
     }
 
+-- where both have the same fault or none, it suffices that runs without one agree
+alike : (found : Option EntryFault) (source : ℕ → Outcome) (code : List Instr) (entry : Option State) → (found ≡ None → Agrees source (outcome_from code entry))
+    → BeginAlike (unless_faulty found source) (outcomes code (unless_faulty found entry))
+alike None source code entry runs = runs refl
+alike (Some fault) source code entry runs = refl
+
 -- the code of a small program agrees with it
 pub small_agrees : (count : ℕ) (sum : plain.Expr) (return_at at : ℕ) → count ≤ 8 → IsSum count sum
-    → Agree (source_fault (number_program count sum return_at at)) (straight_fault (straight_of count sum)) (source_outcome (number_program count sum return_at at)) (straight_outcome (straight_of count sum))
-small_agrees count sum return_at at few is = record {
-  faults = λ args heap depth run. faults_same count sum return_at at args;
-  runs = λ args heap depth run none.
-      let fault = sym (faults_same count sum return_at at args) ∙ none in
-      agrees (source_outcome (number_program count sum return_at at) args heap depth) (straight_outcome (straight_of count sum) args heap depth)
-      (straight-is_steady (straight_of count sum) args heap depth)
-      (λ fuel. follows count sum return_at at args heap depth fuel few is fault);
-}
+    → Agree (source_run (number_program count sum return_at at)) (straight_run (straight_of count sum))
+unfolding source_run straight_run
+small_agrees count sum return_at at few is args heap depth run =
+    let source = source_outcome (number_program count sum return_at at) (arg_words args) heap depth in
+    let code = (straight_of count sum).code in
+    let entry = entry_state args heap depth in
+    let fault = straight_fault (straight_of count sum) args in
+    subst (λ found. BeginAlike (unless_faulty found source) (outcomes code (unless_faulty fault entry))) (sym (faults_same count sum return_at at args))
+    (alike fault source code entry
+    (λ none. agrees source (outcome_from code entry) (outcome_from-is_steady code entry) (λ fuel. follows count sum return_at at args heap depth fuel few is none)))

@@ -3,9 +3,12 @@ use Rattle.std.proofs.Common.{◌≡◌, ℕ, zero, suc, ℤ, ◌+ℤ◌, ◌-�
 use Rattle.xan_io.specs.declared.arg.Arg.{Arg}
 use Rattle.xan_io.specs.Agreement.{Agree}
 use Rattle.xan_io.specs.Contents.{replaced}
+use Rattle.xan_io.specs.Entry.{EntryFault, unless_faulty}
+use Rattle.xan_io.specs.Outcome.{Outcome}
 use Rattle.dtal_code.specs.declared.straight.Straight.{Straight}
-use Rattle.dtal_code.specs.Entry.{straight_fault, straight_outcome, arg_words}
-use Rattle.dtal_code.specs.Machine.{fits_word}
+use Rattle.dtal_code.specs.Entry.{straight_fault, entry_state, outcome_from, outcomes, straight_run, arg_words}
+use Rattle.dtal_code.specs.declared.op.Op.{Op as Instr}
+use Rattle.dtal_code.specs.Machine.{State, fits_word}
 use Rattle.dtal_code.specs.Text.{Spells, program_text}
 use Rattle.dtal_code.proofs.Arguments.{length-arg_words, fault-none_count}
 use Rattle.dtal_code.proofs.Steps.{get_within}
@@ -13,10 +16,10 @@ use Rattle.xanadu_tree.specs.declared.expr.Op.{Op}
 use Rattle.xanadu_tree.specs.declared.expr.Op.TheVariants.{Add, Sub, Mul, Div, Mod}
 use Rattle.xanadu_tree.specs.Plain as plain
 use Rattle.xanadu_tree.specs.Small.{IsSmall, IsSum, IsOperand, IsSumOp, AreSumLinks, number_program}
-use Rattle.xanadu_driver.specs.Correct.{HasEnded, Translates}
+use Rattle.xanadu_driver.specs.Correct.{HasEnded, RunEnds, Translates}
 use Rattle.xanadu_driver.specs.Lowering.{straight_of}
 use Rattle.xanadu_driver.specs.Source.{IsCore}
-use Rattle.xanadu_driver.specs.Meaning.{Computed, Number, Overflows, Undefined, and_then, known, operator, value, links_value, how_of, source_fault, source_outcome}
+use Rattle.xanadu_driver.specs.Meaning.{Computed, Number, Overflows, Undefined, and_then, known, operator, value, links_value, how_of, source_fault, source_outcome, source_run}
 use Rattle.xanadu_driver.proofs.Ranges.{straight_spelled}
 use Rattle.xanadu_driver.proofs.Simulation.{faults_same, follows, small_agrees}
 
@@ -75,12 +78,40 @@ defined_ends depth Overflows is = tt
 defined_ends depth Undefined is = absurd is
 
 ends : (count : ℕ) (sum : plain.Expr) (return_at at : ℕ) (args : List Arg) (heap depth fuel : ℕ) → IsSum count sum → straight_fault (straight_of count sum) args ≡ None
-    → HasEnded depth (source_outcome (number_program count sum return_at at) args heap depth fuel).how
+    → HasEnded depth (source_outcome (number_program count sum return_at at) (arg_words args) heap depth fuel).how
 unfolding source_outcome
 ends count sum return_at at args heap zero fuel is none = tt
 ends count sum return_at at args heap (suc depth) fuel is none =
     let many : length (arg_words args) ≡ count = length-arg_words args ∙ fault-none_count (straight_of count sum) args none in
     defined_ends depth (value (arg_words args) sum) (sum_defined (arg_words args) sum (subst (λ n. IsSum n sum) (sym many) is))
+
+-- a run that begins ends
+unless_ended : (depth units : ℕ) (found : Option EntryFault) (run : ℕ → Outcome) → (found ≡ None → HasEnded depth (run units).how)
+    → RunEnds depth (unless_faulty found run) units
+unless_ended depth units None run ended = ended refl
+unless_ended depth units (Some fault) run ended = tt
+
+pub source_run-ends : (count : ℕ) (sum : plain.Expr) (return_at at : ℕ) (args : List Arg) (heap depth fuel : ℕ) → IsSum count sum
+    → RunEnds depth (source_run (number_program count sum return_at at) args heap depth) fuel
+unfolding source_run
+source_run-ends count sum return_at at args heap depth fuel is =
+    unless_ended depth fuel (source_fault (number_program count sum return_at at) args) (source_outcome (number_program count sum return_at at) (arg_words args) heap depth)
+    (λ none. ends count sum return_at at args heap depth fuel is (sym (faults_same count sum return_at at args) ∙ none))
+
+straight-ended : (depth : ℕ) (code : List Instr) (entry : Option State) (found : Option EntryFault)
+    → (found ≡ None → (steps : ℕ) × HasEnded depth (outcome_from code entry steps).how)
+    → (steps : ℕ) × RunEnds depth (outcomes code (unless_faulty found entry)) steps
+straight-ended depth code entry None ended = ended refl
+straight-ended depth code entry (Some fault) ended = (0, tt)
+
+pub straight_run-ends : (count : ℕ) (sum : plain.Expr) (return_at at : ℕ) (args : List Arg) (heap depth : ℕ) → count ≤ 8 → IsSum count sum
+    → (steps : ℕ) × RunEnds depth (straight_run (straight_of count sum) args heap depth) steps
+unfolding straight_run
+straight_run-ends count sum return_at at args heap depth few is =
+    straight-ended depth (straight_of count sum).code (entry_state args heap depth) (straight_fault (straight_of count sum) args)
+    (λ none.
+    let f = follows count sum return_at at args heap depth 0 few is none in
+    (f.steps, subst (λ (o : Outcome). HasEnded depth o.how) (sym f.same) (ends count sum return_at at args heap depth 0 is none)))
 
 -- ---- the whole
 
@@ -91,9 +122,7 @@ pub translates : (source text : List ℕ) (core : plain.Program) (program : Stra
 translates source text core program instructions has s lowers spells one counted =
     let is = lowers s in
     let whole = number_program s.count s.value s.return_at s.at in
-    let straight = straight_of s.count s.value in
     let agree = small_agrees s.count s.value s.return_at s.at s.few s.sum in
-    let agree_program = subst (λ q. Agree (source_fault whole) (straight_fault q) (source_outcome whole) (straight_outcome q)) (sym is) agree in
     record {
       core = core;
       program = program;
@@ -102,18 +131,12 @@ translates source text core program instructions has s lowers spells one counted
       spelled = spells;
       only = λ other h. one text other program h spells;
       counted = counted;
-      agree = subst (λ c. Agree (source_fault c) (straight_fault program) (source_outcome c) (straight_outcome program)) (sym s.is) agree_program;
-      source_ends = λ args heap depth run none fuel.
-          let no_fault : source_fault whole args ≡ None = ap (λ c. source_fault c args) (sym s.is) ∙ none in
-          subst (λ c. HasEnded depth (source_outcome c args heap depth fuel).how) (sym s.is)
-          (ends s.count s.value s.return_at s.at args heap depth fuel s.sum (sym (faults_same s.count s.value s.return_at s.at args) ∙ no_fault));
-      machine_ends = λ args heap depth run none.
-          let no_fault : straight_fault straight args ≡ None = ap (λ q. straight_fault q args) (sym is) ∙ none in
-          let f = follows s.count s.value s.return_at s.at args heap depth 0 s.few s.sum no_fault in (
-            f.steps,
-            subst (λ q. HasEnded depth (straight_outcome q args heap depth f.steps).how) (sym is)
-                (subst (λ o. HasEnded depth o.how) (sym f.same) (ends s.count s.value s.return_at s.at args heap depth 0 s.sum no_fault)),
-          );
+      agree = subst (λ c. Agree (source_run c) (straight_run program)) (sym s.is) (subst (λ q. Agree (source_run whole) (straight_run q)) (sym is) agree);
+      source_ends = λ args heap depth run fuel.
+          subst (λ c. RunEnds depth (source_run c args heap depth) fuel) (sym s.is) (source_run-ends s.count s.value s.return_at s.at args heap depth fuel s.sum);
+      machine_ends = λ args heap depth run.
+          let ends = straight_run-ends s.count s.value s.return_at s.at args heap depth s.few s.sum in
+          (ends.0, subst (λ q. RunEnds depth (straight_run q args heap depth) ends.0) (sym is) ends.1);
     }
 
 or_bytes : List ℕ → Option (List ℕ) → List ℕ

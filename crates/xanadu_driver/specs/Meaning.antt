@@ -1,8 +1,8 @@
 -- What a source program does, as far as the forms go that are built: a function of numbers that returns a sum.
-use Rattle.std.specs.Prelude.{ℕ, zero, suc, ℤ, ◌+ℤ◌, ◌-ℤ◌, Bool, true, false, List, [], ◌∷◌, length, Option, Some, None, ◌==◌, slice_get, if◌then◌else◌}
+use Rattle.std.specs.Prelude.{ℕ, zero, suc, ℤ, ◌+ℤ◌, ◌-ℤ◌, Bool, true, false, List, [], ◌∷◌, length, Option, Some, None, Result, ◌==◌, slice_get, if◌then◌else◌}
 use Rattle.xan_io.specs.declared.arg.Arg.{Arg}
 use Rattle.xan_io.specs.declared.arg.Arg.TheVariants as arg
-use Rattle.xan_io.specs.Entry.{EntryFault, ArgCount, ArgKind}
+use Rattle.xan_io.specs.Entry.{EntryFault, ArgCount, ArgKind, unless_faulty}
 use Rattle.xan_io.specs.Outcome.{How, Returned, NoStore, Overflow, Stuck, Outcome}
 use Rattle.dtal_code.specs.Machine.{fits_word}
 use Rattle.dtal_code.specs.Entry.{arg_words}
@@ -85,12 +85,16 @@ fun_fault None args = Some ArgCount
 unfoldable pub source_fault : plain.Program → List Arg → Option EntryFault
 source_fault program args = fun_fault (slice_get program.funs program.main) args
 
-abbrev pub fun_how : Option plain.Fun → List Arg → ℕ → How
-fun_how (Some fun) args zero = NoStore
-fun_how (Some fun) args (suc depth) = body_how (arg_words args) fun.body
-fun_how None args depth = Stuck
+abbrev pub fun_how : Option plain.Fun → List ℤ → ℕ → How
+fun_how (Some fun) words zero = NoStore
+fun_how (Some fun) words (suc depth) = body_how words fun.body
+fun_how None words depth = Stuck
 
--- The outcome of the program on these arguments, with so large a store, so many activations and so many units of fuel. A body that only
--- returns prints nothing and takes no unit.
-unfoldable pub source_outcome : plain.Program → List Arg → (heap depth fuel : ℕ) → Outcome
-source_outcome program args heap depth fuel = record { printed = []; how = fun_how (slice_get program.funs program.main) args depth }
+-- The outcome of a run that has begun on these words, with so large a store, so many activations and so many units of fuel. A body that
+-- only returns prints nothing and takes no unit.
+unfoldable pub source_outcome : plain.Program → (words : List ℤ) → (heap depth fuel : ℕ) → Outcome
+source_outcome program words heap depth fuel = record { printed = []; how = fun_how (slice_get program.funs program.main) words depth }
+
+-- the program's run on these arguments: its outcome for each number of units, or the first fault, and then there is no run
+unfoldable pub source_run : plain.Program → List Arg → (heap depth : ℕ) → Result (ℕ → Outcome) EntryFault
+source_run program args heap depth = unless_faulty (source_fault program args) (source_outcome program (arg_words args) heap depth)

@@ -1,5 +1,5 @@
-use Rattle.dtal_code.proofs.Steps.{straight-is_steady}
+use Rattle.dtal_code.proofs.Steps.{outcome_from-is_steady}
 use Rattle.dtal_code.proofs.laws.straight_runs_are_steady.Goals as goal
 
 pub returns : goal.returns
-returns c = straight-is_steady
+returns c = outcome_from-is_steady

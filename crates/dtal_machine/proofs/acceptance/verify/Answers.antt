@@ -13,8 +13,8 @@ pub returns-in-Ok-clause-accepted : goal.returns-in-Ok-clause-accepted
 returns-in-Ok-clause-accepted c = (refl, none-accepted c.args.program c.requires c.in-Ok.ensures)
 
 pub returns-in-Ok-clause-safe : goal.returns-in-Ok-clause-safe
-returns-in-Ok-clause-safe c = λ args heap depth steps none.
-    accepted-runs_safely c.args.program args heap depth steps (none-accepted c.args.program c.requires c.in-Ok.ensures) none
+returns-in-Ok-clause-safe c = λ args heap depth steps.
+    accepted-runs_safely c.args.program args heap depth steps (none-accepted c.args.program c.requires c.in-Ok.ensures)
 
 pub returns-in-Err-clause-refused : goal.returns-in-Err-clause-refused
 returns-in-Err-clause-refused c = λ at rule e.

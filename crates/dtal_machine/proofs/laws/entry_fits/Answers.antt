@@ -1,5 +1,5 @@
-use Rattle.dtal_machine.proofs.Runs.{first_fits}
+use Rattle.dtal_machine.proofs.Runs.{entry_fits}
 use Rattle.dtal_machine.proofs.laws.entry_fits.Goals as goal
 
 pub returns : goal.returns
-returns c = first_fits
+returns c = entry_fits

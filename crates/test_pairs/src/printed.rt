@@ -1,7 +1,7 @@
 // What no clause says: that the definition of a text gives these bytes, and that there is an answer at all.
 ghost use Rattle.dtal_code.specs.Text.{IsStraight};
 
-use crate::{Op, Straight, print_straight};
+use dtal_code::{Op, Straight, print_straight};
 use std::alloc::Global;
 use std::test::Fail;
 use xan_io::{Memory, Name};

@@ -2,8 +2,8 @@
 ghost use Rattle.std.specs.Prelude.{◌≤◌, codes};
 ghost use Rattle.dtal_code.specs.Text.{IsStraight};
 
-use crate::{Event, LoadError, Machine, Rule, Verified, VerifyError, Where, verify};
 use dtal_code::{Op, Straight};
+use dtal_machine::{Event, LoadError, Machine, Rule, Verified, VerifyError, Where, verify};
 use std::alloc::Global;
 use std::process::Abort;
 use std::test::Fail;

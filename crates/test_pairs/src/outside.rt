@@ -1,12 +1,15 @@
-use crate::{
-    Arg, ArgError, FileFault, FileRead, Files, HostSink, MemFiles, MemSink, Name, SafeFiles, Sink,
-    read_arg,
-};
+// Files, sinks, names and arguments: that each call succeeds with ample memory, and what the calls that are to fail leave.
+use std::env;
+use std::fs;
 use std::process::Abort;
 use std::test::Fail;
+use xan_io::{
+    Arg, ArgError, FileFault, FileRead, Files, HostFiles, HostSink, MemFiles, MemSink, Name, SafeFiles,
+    Sink, put_number, read_arg,
+};
 
 /// The read gave these bytes.
-pub(crate) fn is_whole(outcome: Result<FileRead, FileFault>, wanted: &[u8]) -> bool {
+fn is_whole(outcome: Result<FileRead, FileFault>, wanted: &[u8]) -> bool {
     match outcome {
         Ok(FileRead::Whole(bytes)) => bytes.as_slice() == wanted,
         _ => false,
@@ -14,11 +17,11 @@ pub(crate) fn is_whole(outcome: Result<FileRead, FileFault>, wanted: &[u8]) -> b
 }
 
 /// The read found more bytes than it was to take.
-pub(crate) fn is_too_long(outcome: Result<FileRead, FileFault>) -> bool {
+fn is_too_long(outcome: Result<FileRead, FileFault>) -> bool {
     matches!(outcome, Ok(FileRead::TooLong))
 }
 
-pub(crate) fn is_failed(outcome: Result<FileRead, FileFault>) -> bool {
+fn is_failed(outcome: Result<FileRead, FileFault>) -> bool {
     matches!(outcome, Err(FileFault::Failed))
 }
 
@@ -106,6 +109,34 @@ fn host_sink(rt: HostRuntime) {
     let mut sink = HostSink::new(&rt);
     assert!(rt; sink.put(b"built\n").is_ok());
     assert!(rt; sink.put(b"").is_ok());
+}
+
+#[test]
+fn host_files(rt: HostRuntime) -> Result<(), Fail> {
+    let alloc = rt.alloc();
+    let mut path = env::temp_dir(&rt)?;
+    path.push("xan_io_host_files")?;
+    let name = path.to_str().ok_or("the path is text")?;
+    let mut files = HostFiles::new(&rt);
+    assert!(rt; files.write(alloc, name, b"abcde").is_ok());
+    assert!(rt; is_whole(files.read(alloc, name, 5), b"abcde"));
+    assert!(rt; is_too_long(files.read(alloc, name, 4)));
+    assert!(rt; files.write(alloc, name, b"xy").is_ok());
+    assert!(rt; is_whole(files.read(alloc, name, 5), b"xy"));
+    fs::remove_file(&rt, name)?;
+    assert!(rt; is_failed(files.read(alloc, name, 5)));
+    Ok(())
+}
+
+/// A line goes out as one piece: a sink without room for it holds the first half of it.
+#[test]
+fn a_number_is_one_piece(rt: HostRuntime) -> Result<(), Fail> {
+    let alloc = rt.alloc();
+    let mut sink = MemSink::new(alloc, 40, Vec::new(alloc))?;
+    assert!(rt; put_number(&mut sink, &i64::MIN).is_ok());
+    assert!(rt; put_number(&mut sink, &i64::MAX).is_err());
+    assert!(rt; sink.bytes() == b"-9223372036854775808\n9223372036".as_slice());
+    Ok(())
 }
 
 const NUMBERS: &[(&str, i64)] = &[
