@@ -1,11 +1,10 @@
 // Files, sinks, names and arguments: that each call succeeds with ample memory, and what the calls that are to fail leave.
-use std::env;
-use std::fs;
 use std::process::Abort;
 use std::test::Fail;
+use std::{env, fs};
 use xan_io::{
-    Arg, ArgError, FileFault, FileRead, Files, HostFiles, HostSink, MemFiles, MemSink, Name, SafeFiles,
-    Sink, put_number, read_arg,
+    Arg, ArgError, FileFault, FileRead, Files, HostFiles, HostSink, MemFiles, MemSink, Name,
+    SafeFiles, Sink, put_number, read_arg,
 };
 
 /// The read gave these bytes.
