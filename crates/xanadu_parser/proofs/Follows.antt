@@ -1,5 +1,5 @@
 -- Which tokens go on with a text, and which tables take none of the others.
-use Rattle.std.proofs.Common.{◌≡◌, Bool, true, false, cond, List, [], ◌∷◌, ◌++◌, Option, Some, None, refl, ap, ◌∙◌}
+use Rattle.std.proofs.Common.{◌≡◌, Bool, false, cond, List, [], ◌∷◌, ◌++◌, Option, Some, None, refl, ap, ◌∙◌}
 use Rattle.xanadu_lexer.specs.declared.keyword.Keyword.{Keyword}
 use Rattle.xanadu_lexer.specs.declared.symbol.Symbol.{Symbol}
 use Rattle.xanadu_lexer.specs.declared.symbol.Symbol.TheVariants as symbol

@@ -390,12 +390,27 @@ impl<F: Fn(Global, &mut Tokens<'_>, usize) -> Result<Expression, Stop>> Levels<F
         ensures { Reads plain_primary result tokens.new (spec.new_array (spec.expression self.now.room) at tokens.old) }
     {
         let element = element(tokens)?;
-        tokens.symbol(Symbol::LeftBracket)?;
-        let length = self.inner(tokens)?;
-        let length = Box::new(self.alloc, length)?;
-        tokens.symbol(Symbol::RightBracket)?;
-        tokens.symbol(Symbol::LeftParen)?;
-        let fill = self.closed(tokens)?;
+        if let Err(stop) = tokens.symbol(Symbol::LeftBracket) {
+            return Err(stop.behind(element));
+        }
+        let length = match self.inner(tokens) {
+            Ok(length) => length,
+            Err(stop) => return Err(stop.behind(element)),
+        };
+        let length = match Box::new(self.alloc, length) {
+            Ok(length) => length,
+            Err(failed) => return Err(Stop::from(failed).behind(element)),
+        };
+        if let Err(stop) = tokens.symbol(Symbol::RightBracket) {
+            return Err(stop.behind(length).behind(element));
+        }
+        if let Err(stop) = tokens.symbol(Symbol::LeftParen) {
+            return Err(stop.behind(length).behind(element));
+        }
+        let fill = match self.closed(tokens) {
+            Ok(fill) => fill,
+            Err(stop) => return Err(stop.behind(length).behind(element)),
+        };
         Ok(Primary::New {
             element,
             length,
