@@ -1,5 +1,5 @@
 -- How many rows a system has, and how many steps it takes.
-use Rattle.std.proofs.Common.{◌≡◌, ℕ, zero, suc, ◌+◌, ◌-◌, ◌≤◌, ℤ, pos, Bool, true, false, cond, nat_lt, int_lt, List, [], ◌∷◌, ◌++◌, length, None, Result, Ok, Err, refl, sym, ◌∙◌, ap, arith}
+use Rattle.std.proofs.Common.{◌≡◌, ℕ, suc, ◌+◌, ◌≤◌, ℤ, pos, Bool, true, false, cond, nat_lt, int_lt, List, [], ◌∷◌, ◌++◌, length, None, Result, Ok, Err, refl, sym, ◌∙◌, ap, arith}
 use Rattle.std.proofs.lemmas.List.{length-append}
 use Rattle.xan_lin.specs.Linear.{Linear, are_within}
 use Rattle.xan_lin.specs.declared.term.LimitKind.{LimitKind}

@@ -5,9 +5,8 @@ ghost use Rattle.xan_lin.specs.Linear.{all_within};
 ghost use Rattle.linear_solver.specs.Merging.{front_coefficient, behind, front_variable, combined_terms};
 
 use crate::divisors::Multipliers;
-use crate::numbers::number_combination;
 use std::alloc::{AllocError, Global};
-use xan_lin::Term;
+use xan_lin::{Term, combine_numbers};
 
 // The coefficient of a variable in the first term.
 fn front_coefficient(terms: &[Term], var: u32) -> i64
@@ -83,7 +82,7 @@ pub(crate) fn combined(
         let var = front_variable(xs, ys);
         let x = front_coefficient(xs, var);
         let y = front_coefficient(ys, var);
-        let Some(coef) = number_combination(&x, &by.first, &y, &by.second) else {
+        let Some(coef) = combine_numbers(&x, &by.first, &y, &by.second) else {
             return Ok(None);
         };
         push_multiple(&mut made, var, &coef)?;

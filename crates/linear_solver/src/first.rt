@@ -1,5 +1,5 @@
 //! The first system.
-ghost use Rattle.std.specs.Prelude.{◌≡◌, ◌≤◌, length, IfOk, OnOk, if◌then◌else◌};
+ghost use Rattle.std.specs.Prelude.{◌≡◌, ◌≤◌, [], length, IfOk, OnOk, if◌then◌else◌};
 ghost use Rattle.linear_solver.specs.declared.step.Step.TheVariants.{Hyp};
 ghost use Rattle.linear_solver.specs.declared.source.Source.TheVariants.{New};
 ghost use Rattle.linear_solver.specs.Systems.{tight, settle};
@@ -20,14 +20,14 @@ pub(crate) fn first_rows(
     vars: &[u32],
     hyps: &[Form],
     start: &Form,
-) -> Result<Reduced, AllocError>
-    requires { length hyps.now ≤ 512 }
-    ensures { IfOk result (λ made. made ≡ first_rows vars.now hyps.now start.now) }
+    made: &mut Reduced,
+) -> Result<(), AllocError>
+    requires few { length hyps.now ≤ 512 }
+    requires empty { made.old ≡ [] }
+    ensures { OnOk result (made.new ≡ first_rows vars.now hyps.now start.now) }
 {
-    let mut made = Reduced::new(alloc)?;
-    with_hyps(alloc, vars, hyps, &mut made)?;
-    made.settle(row_of(alloc, start, Source::New(Step::Goal))?)?;
-    Ok(made)
+    with_hyps(alloc, vars, hyps, made)?;
+    made.settle(row_of(alloc, start, Source::New(Step::Goal))?)
 }
 
 // Puts the hypotheses that bear on the goal.

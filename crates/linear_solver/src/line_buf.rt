@@ -4,6 +4,7 @@ ghost use Rattle.std.specs.List.{slice_index_or};
 ghost use Rattle.xan_lin.specs.Subst.{zero_form};
 ghost use Rattle.linear_solver.specs.Meaning.{lines_meant, line_meant};
 
+use crate::reduced::no_hints;
 use crate::step::Step;
 use index_sorts::Context;
 use proof_lines::Line;
@@ -18,6 +19,8 @@ pub(crate) const MOST_STEPS: usize = 257_026;
 #[derive(Drop)]
 pub struct LineBuf {
     steps: Vec<Step>,
+    // Guesses where rows with some coefficients lie: no promise hangs on them, and they are never cleared.
+    hints: Vec<u32>,
 }
 
 impl Model for LineBuf {
@@ -40,7 +43,24 @@ impl LineBuf {
         let Ok(steps) = Vec::with_capacity(alloc, MOST_STEPS) else {
             return Err(Memory);
         };
-        Ok(LineBuf { steps })
+        let Ok(hints) = no_hints(alloc) else {
+            return Err(Memory);
+        };
+        Ok(LineBuf { steps, hints })
+    }
+
+    /// Lends its hints, until they are given back.
+    pub(crate) fn take_hints(&mut self, alloc: Global) -> Vec<u32>
+        ensures { self.new ≡ self.old }
+    {
+        std::mem::replace(&mut self.hints, Vec::new(alloc))
+    }
+
+    /// Gets its hints back.
+    pub(crate) fn give_hints(&mut self, hints: Vec<u32>)
+        ensures { self.new ≡ self.old }
+    {
+        self.hints = hints;
     }
 
     /// Its steps.

@@ -1,54 +1,7 @@
 //! Arithmetic on the numbers of rows.
-ghost use Rattle.std.specs.Prelude.{◌≡◌, ◌-◌, ◌^◌, ◌<◌, ◌≤◌, ◌+ℤ◌, ◌*ℤ◌, unsigned_abs, IsTrue, true, false, MatchOption};
-ghost use Rattle.xan_lin.specs.Linear.{is_within};
+ghost use Rattle.std.specs.Prelude.{◌≡◌, IsTrue};
 ghost use Rattle.proof_lines.specs.Rows.{floor_over};
 ghost use Rattle.proof_lines.specs.Check.{is_positive};
-
-// The product of a number and a multiplier below 2^63.
-fn product(number: &i64, by: &i64) -> i128
-    requires { unsigned_abs by.now < 2 ^ 63 }
-    ensures exact { result ≡ number.now *ℤ by.now }
-    ensures room { unsigned_abs result ≤ 2 ^ 126 - 2 ^ 63 }
-{
-    i128::from(*number) * i128::from(*by)
-}
-
-// The number, where it is within the bound of forms.
-fn narrowed(exact: &i128) -> Option<i64>
-    ensures { MatchOption result (is_within exact.now ≡ false) (λ number. (number ≡ exact.now) × (is_within number ≡ true)) }
-{
-    if exact.unsigned_abs() < 1 << 62 {
-        Some(*exact as i64)
-    } else {
-        None
-    }
-}
-
-// The sum of two numbers that is exact since neither is large.
-fn sum(left: &i128, right: &i128) -> i128
-    requires left { unsigned_abs left.now ≤ 2 ^ 126 - 2 ^ 63 }
-    requires right { unsigned_abs right.now ≤ 2 ^ 126 - 2 ^ 63 }
-    ensures { result ≡ left.now +ℤ right.now }
-{
-    *left + *right
-}
-
-/// The sum of two numbers, each times a multiplier below 2^63, where it is within the bound of forms.
-pub(crate) fn number_combination(
-    left: &i64,
-    left_by: &i64,
-    right: &i64,
-    right_by: &i64,
-) -> Option<i64>
-    requires left { unsigned_abs left_by.now < 2 ^ 63 }
-    requires right { unsigned_abs right_by.now < 2 ^ 63 }
-    ensures { MatchOption result (is_within ((left.now *ℤ left_by.now) +ℤ (right.now *ℤ right_by.now)) ≡ false)
-        (λ number. (number ≡ (left.now *ℤ left_by.now) +ℤ (right.now *ℤ right_by.now)) × (is_within number ≡ true)) }
-{
-    let left_product = product(left, left_by);
-    let right_product = product(right, right_by);
-    narrowed(&sum(&left_product, &right_product))
-}
 
 /// The floor of the number over a divisor of at least 1.
 pub(crate) fn number_floor(number: &i64, by: &i64) -> i64

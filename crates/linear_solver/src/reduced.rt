@@ -33,14 +33,19 @@ impl Model for Reduced {
 }
 
 impl Reduced {
-    /// No rows.
-    pub(crate) fn new(alloc: Global) -> Result<Reduced, AllocError>
-        ensures { IfOk result (λ reduced. reduced ≡ []) }
+    /// No rows. What the hints say is tested, so that those of an earlier system serve.
+    pub(crate) fn new(alloc: Global, hints: Vec<u32>) -> Reduced
+        ensures { result ≡ [] }
     {
-        Ok(Reduced {
+        Reduced {
             rows: Vec::new(alloc),
-            hints: no_hints(alloc)?,
-        })
+            hints,
+        }
+    }
+
+    /// Its hints.
+    pub(crate) fn into_hints(self) -> Vec<u32> {
+        self.hints
     }
 
     /// Its rows.
@@ -107,8 +112,8 @@ impl Reduced {
     }
 }
 
-// So many guesses, all of the first place.
-fn no_hints(alloc: Global) -> Result<Vec<u32>, AllocError> {
+/// So many guesses, all of the first place.
+pub(crate) fn no_hints(alloc: Global) -> Result<Vec<u32>, AllocError> {
     Ok(vec![in alloc; 0; HINTS]?)
 }
 

@@ -33,9 +33,30 @@ pub(crate) fn in_cone(
     requires empty { buf.old ≡ [] }
     ensures { Answers result buf.new (in_cone vars.now hyps.now start.now) }
 {
-    let mut made = first_rows(alloc, vars, hyps, start)?;
+    let mut made = Reduced::new(alloc, buf.take_hints(alloc));
+    let answer = from_first(alloc, vars, hyps, start, &mut made, buf);
+    buf.give_hints(made.into_hints());
+    answer
+}
+
+// The elimination from the first system on; `made` lends the room for the systems in the making.
+fn from_first(
+    alloc: Global,
+    vars: &[u32],
+    hyps: &[Form],
+    start: &Form,
+    made: &mut Reduced,
+    buf: &mut LineBuf,
+) -> Result<Answer, Stop>
+    requires few { length vars.now ≤ 64 }
+    requires few_rows { length hyps.now ≤ 512 }
+    requires empty { buf.old ≡ [] }
+    requires none { made.old ≡ [] }
+    ensures { Answers result buf.new (in_cone vars.now hyps.now start.now) }
+{
+    first_rows(alloc, vars, hyps, start, made)?;
     let rows = numbered(alloc, made.rows(), buf)?;
-    rounds(alloc, vars, rows, &mut made, buf)
+    rounds(alloc, vars, rows, made, buf)
 }
 
 // The rounds from a system on; `made` lends the room for the systems in the making.

@@ -1,6 +1,6 @@
 use Rattle.std.proofs.Common.{ap, length, arith}
 use Rattle.linear_solver.proofs.Room.{first-few}
-use Rattle.linear_solver.proofs.rounds.in_cone.Goals as goal
+use Rattle.linear_solver.proofs.rounds.from_first.Goals as goal
 
 pub numbered-requires : goal.numbered-requires
 numbered-requires c =
@@ -8,7 +8,7 @@ numbered-requires c =
       arith,
       ap length c.requires.empty,
       ap length c.rows.ensures,
-      ap length (c.in_ok-made.ensures {u = tt}),
+      ap length (c.in_ok-first_rows.ensures {u = tt}),
       first-few c.args.vars.now c.args.hyps.now c.args.start.now,
       c.requires.few_rows,
     )
@@ -19,7 +19,7 @@ rounds-requires c =
       arith,
       ap length c.requires.empty,
       ap length c.rows.ensures,
-      ap length (c.in_ok-made.ensures {u = tt}),
+      ap length (c.in_ok-first_rows.ensures {u = tt}),
       first-few c.args.vars.now c.args.hyps.now c.args.start.now,
       c.requires.few_rows,
       (c.in_ok-rows.ensures {u = tt}).few,
