@@ -2,4 +2,5 @@
 mod contexts;
 mod forms;
 mod pools;
+mod systems;
 mod types;

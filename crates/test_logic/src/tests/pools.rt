@@ -1,6 +1,6 @@
 // Each call once, in a pool of two rows. The rows at the end are worked out by hand.
-use xan_pool::{Full, Mark, Memory, RowPool};
 use std::test::Fail;
+use xan_pool::{Full, Mark, Memory, RowPool};
 
 #[test]
 fn rows_come_and_go(rt: HostRuntime) -> Result<(), Fail> {

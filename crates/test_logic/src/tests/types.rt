@@ -2,6 +2,7 @@
 
 ghost use Rattle.std.specs.Prelude.{◌≡◌, ◌<◌, IfOk, IfSome, length};
 
+use crate::tests::systems::{add, spelled};
 use state_types::{
     Context, Memory, Packed, Places, Signature, StateError, StateType, Ty, TypeTable, match_params,
     match_types, meets, pack_goals, unpack,
@@ -32,16 +33,6 @@ fn form(written: Written) -> Option<Form> {
 // A variable and a number.
 fn plus(var: u32, constant: i64) -> Option<Form> {
     form((var, 1, 0, 0, constant))
-}
-
-// The spelling of the forms, each with a semicolon behind it.
-fn spelled(alloc: Global, forms: &[Form]) -> Option<Vec<u8>> {
-    let mut text = Vec::new(alloc);
-    for form in forms {
-        form.write_form(&mut text).ok()?;
-        text.push(b';').ok()?;
-    }
-    Some(text)
 }
 
 fn forms(alloc: Global, form: Form) -> Option<Seq<Form>> {
@@ -152,15 +143,6 @@ fn constructors_demand_rows(rt: HostRuntime) -> Result<(), Fail> {
         assert!(rt; rows.as_slice() == b"-1v3+1v4+0;".as_slice());
     }
     Ok(())
-}
-
-// Adds the row, which names only variables of the context.
-fn add(ctx: &mut Context, row: Form) -> Option<()> {
-    let vars = ctx.vars();
-    if row.terms().iter().all(|term| term.var < vars) {
-        ctx.add(row).ok()?;
-    }
-    Some(())
 }
 
 // The state of an array of length v0 in place 0 and of a number in place 1, with 0 <= v0 and 0 <= v1.

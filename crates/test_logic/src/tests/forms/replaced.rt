@@ -1,7 +1,7 @@
 //! Forms in which the variables are replaced. The answers are worked out by hand.
-use xan_lin::{BOUND, Form, Term, TooLarge};
 use std::alloc::Global;
 use std::test::Fail;
+use xan_lin::{BOUND, Form, Term, TooLarge};
 
 // A multiple of a variable, and a constant.
 type Piece = (u32, i64, i64);

@@ -1,6 +1,6 @@
 //! Sums, differences and products, and how they are spelled.
-use xan_lin::{BOUND, Form, Term, TooLarge};
 use std::test::Fail;
+use xan_lin::{BOUND, Form, Term, TooLarge};
 
 #[test]
 fn sums_stop_at_the_bounds(rt: HostRuntime) -> Result<(), Fail> {

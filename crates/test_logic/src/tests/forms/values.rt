@@ -1,6 +1,6 @@
 //! Values of forms, also past 127 bits.
-use xan_lin::{BOUND, Form, Term};
 use std::test::Fail;
+use xan_lin::{BOUND, Form, Term};
 
 // Whether the row holds, where each of its variables has a value.
 fn holds(form: &Form, values: &[i64]) -> Option<bool> {
