@@ -1,5 +1,6 @@
 //! Sources as rows of tables.
 
+mod lexing;
 mod long;
 mod parsing;
 mod printing;

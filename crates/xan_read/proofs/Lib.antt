@@ -13,5 +13,3 @@ pub mod NameLaws
 pub mod SignLaws
 pub mod Loops
 pub mod SpelledLaws
-pub mod SampleLaws
-pub mod LineLaws

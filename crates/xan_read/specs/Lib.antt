@@ -9,4 +9,3 @@ pub mod Integers
 pub mod Spelled
 pub mod Words
 pub mod Names
-pub mod Sample

@@ -7,7 +7,7 @@ use std::alloc::{AllocError, AllocFailed};
 
 /// The place of a fault: how many bytes are left, the first of them the one at which reading failed.
 /// None is left where the bytes end too early.
-#[derive(Clone, Copy, Drop, PartialEq)]
+#[derive(Clone, Copy, Drop)]
 pub struct Fault {
     pub left: usize,
 }

@@ -25,8 +25,3 @@ pub use names::name;
 pub use numbers::number;
 pub use printing::{push_integer, push_number, push_signed};
 pub use words::word;
-
-#[cfg(test)]
-mod sample;
-#[cfg(test)]
-mod tests;

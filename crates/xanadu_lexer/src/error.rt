@@ -5,7 +5,7 @@ use thiserror::Error;
 use xan_io::Memory;
 
 /// Why a source has no tokens.
-#[derive(Clone, Copy, Debug, Error, PartialEq)]
+#[derive(Clone, Copy, Debug, Error)]
 pub enum LexError {
     /// The first place where no token begins: its offset in bytes, and what is wrong there.
     #[error("fault")]
@@ -16,7 +16,7 @@ pub enum LexError {
 }
 
 /// What is wrong with a source at its first fault.
-#[derive(Clone, Copy, Debug, PartialEq)]
+#[derive(Clone, Copy, Debug)]
 pub enum LexKind {
     /// A byte that begins no token, no blank and no comment.
     Byte,

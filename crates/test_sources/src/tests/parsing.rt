@@ -6,16 +6,28 @@ use std::test::Fail;
 use xanadu_parser::ParseError;
 
 /// What comes of a source, without its tree.
-fn end(alloc: Global, source: &[u8]) -> Option<Result<(), ParseError>> {
-    Some(answer(alloc, source)?.map(|_tree| ()))
+#[derive(Clone, Copy, PartialEq)]
+enum End {
+    Tree,
+    Nesting,
+    Fault(u32),
+}
+
+fn end(alloc: Global, source: &[u8]) -> Option<End> {
+    match answer(alloc, source)? {
+        Ok(_tree) => Some(End::Tree),
+        Err(ParseError::Nesting) => Some(End::Nesting),
+        Err(ParseError::Fault { at }) => Some(End::Fault(at)),
+        Err(ParseError::Memory) => None,
+    }
 }
 
 fn has_tree(alloc: Global, source: &[u8]) -> bool {
-    end(alloc, source) == Some(Ok(()))
+    end(alloc, source) == Some(End::Tree)
 }
 
 fn faults_at(alloc: Global, source: &[u8], at: u32) -> bool {
-    end(alloc, source) == Some(Err(ParseError::Fault { at }))
+    end(alloc, source) == Some(End::Fault(at))
 }
 
 /// A source with `text` in the place of a statement.
@@ -156,12 +168,7 @@ fn nested(alloc: Global, open: &[u8], close: &[u8], count: u32) -> Option<Vec<u8
     Some(source)
 }
 
-fn nested_answer(
-    alloc: Global,
-    open: &[u8],
-    close: &[u8],
-    count: u32,
-) -> Option<Result<(), ParseError>> {
+fn nested_answer(alloc: Global, open: &[u8], close: &[u8], count: u32) -> Option<End> {
     end(alloc, &nested(alloc, open, close, count)?)
 }
 
@@ -181,12 +188,12 @@ const GROUPS: &[(&[u8], &[u8])] = &[
 ];
 
 /// What is put so often into a statement, and closed as often, and the answer.
-const NESTED: &[(&[u8], &[u8], u32, Result<(), ParseError>)] = &[
-    (b"[b ", b"]", 63, Err(ParseError::Fault { at: 210 })),
-    (b"[b ", b"]", 64, Err(ParseError::Nesting)),
-    (b"[0] ", b"", 63, Err(ParseError::Fault { at: 273 })),
-    (b"[0] ", b"", 64, Err(ParseError::Nesting)),
-    (b"] ", b"", 99, Err(ParseError::Fault { at: 21 })),
+const NESTED: &[(&[u8], &[u8], u32, End)] = &[
+    (b"[b ", b"]", 63, End::Fault(210)),
+    (b"[b ", b"]", 64, End::Nesting),
+    (b"[0] ", b"", 63, End::Fault(273)),
+    (b"[0] ", b"", 64, End::Nesting),
+    (b"] ", b"", 99, End::Fault(21)),
 ];
 
 /// The body's own bracket is open around all that is put into it.
@@ -194,9 +201,9 @@ const NESTED: &[(&[u8], &[u8], u32, Result<(), ParseError>)] = &[
 fn sixty_four_brackets_may_be_open(rt: HostRuntime) {
     let alloc = rt.alloc();
     for (open, close) in GROUPS {
-        assert!(rt; nested_answer(alloc, open, close, 62) == Some(Ok(())));
-        assert!(rt; nested_answer(alloc, open, close, 63) == Some(Ok(())));
-        assert!(rt; nested_answer(alloc, open, close, 64) == Some(Err(ParseError::Nesting)));
+        assert!(rt; nested_answer(alloc, open, close, 62) == Some(End::Tree));
+        assert!(rt; nested_answer(alloc, open, close, 63) == Some(End::Tree));
+        assert!(rt; nested_answer(alloc, open, close, 64) == Some(End::Nesting));
     }
     for (open, close, count, wanted) in NESTED {
         assert!(rt; nested_answer(alloc, open, close, *count) == Some(*wanted));

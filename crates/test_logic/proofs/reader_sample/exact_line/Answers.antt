@@ -1,7 +1,7 @@
-use Rattle.xan_read.specs.Sample.{line, IsLine}
+use Rattle.test_logic.specs.ReaderSample.{line, IsLine}
 use Rattle.xan_read.proofs.ReaderLaws.{reads_whole}
-use Rattle.xan_read.proofs.LineLaws.{exact-line}
-use Rattle.xan_read.proofs.sample.exact_line.Goals as goal
+use Rattle.test_logic.proofs.SampleLine.{exact-line}
+use Rattle.test_logic.proofs.reader_sample.exact_line.Goals as goal
 
 pub returns-clause-exact : goal.returns-clause-exact
 returns-clause-exact c = exact-line

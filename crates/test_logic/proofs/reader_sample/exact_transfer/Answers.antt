@@ -1,8 +1,8 @@
 use Rattle.xan_read.specs.Numbers.{NoDigit}
-use Rattle.xan_read.specs.Sample.{transfer, IsTransfer}
+use Rattle.test_logic.specs.ReaderSample.{transfer, IsTransfer}
 use Rattle.xan_read.proofs.ReaderLaws.{reads_whole}
-use Rattle.xan_read.proofs.SampleLaws.{exact-transfer}
-use Rattle.xan_read.proofs.sample.exact_transfer.Goals as goal
+use Rattle.test_logic.proofs.SampleTransfer.{exact-transfer}
+use Rattle.test_logic.proofs.reader_sample.exact_transfer.Goals as goal
 
 pub returns-clause-exact : goal.returns-clause-exact
 returns-clause-exact c = exact-transfer

@@ -4,13 +4,16 @@ ghost use Rattle.std.specs.Prelude.{◌≡◌, ◌≤◌, ◌++◌, OnOk};
 ghost use Rattle.xan_read.specs.Code.{Gives, Reads};
 ghost use Rattle.xan_read.specs.Reader.{Exact, ReadsWhole};
 ghost use Rattle.xan_read.specs.Numbers.{NoDigit, number};
-ghost use Rattle.xan_read.specs.Sample.{transfer, spelled_transfer, IsTransfer, Line, line, IsLine, register, slots, coefficient, one_integer, optional_integer, values};
+ghost use Rattle.test_logic.specs.ReaderSample.{transfer, spelled_transfer, IsTransfer, Line, line, IsLine, register, slots, coefficient, one_integer, optional_integer, values};
 
-use crate::*;
 use std::alloc::{AllocError, Global};
+use xan_read::{
+    Fault, Production, ReadError, after, closed, integer, literal, name, number, push_number,
+    repeated, separated, signed, word,
+};
 
 /// Reads `mv r3 r15`.
-#[tactic(auto, unfolding(crate::specs::Sample::transfer))]
+#[tactic(auto, unfolding(crate::specs::ReaderSample::transfer))]
 pub fn read_transfer(bytes: &[u8]) -> Result<((u64, u64), &[u8]), Fault>
     ensures { Gives (λ x. (x.0, x.1.now)) result (transfer bytes.now) }
 {
@@ -56,17 +59,17 @@ pub struct Coefficient;
 impl Production for Coefficient {
     type Value = i64;
 
-    ghost use Rattle.xan_read.specs.Sample.{coefficient};
+    ghost use Rattle.test_logic.specs.ReaderSample.{coefficient};
 
     ghost reader = { λ _. coefficient };
 
-    #[tactic(auto, unfolding(crate::specs::Sample::coefficient))]
+    #[tactic(auto, unfolding(crate::specs::ReaderSample::coefficient))]
     fn read<'a>(&self, alloc: Global, bytes: &'a [u8]) -> Result<(i64, &'a [u8]), ReadError> {
         Ok(signed(bytes, 0, 4611686018427387903)?)
     }
 }
 
-#[tactic(auto, unfolding(crate::specs::Sample::register))]
+#[tactic(auto, unfolding(crate::specs::ReaderSample::register))]
 fn read_register(bytes: &[u8]) -> Result<(Option<u64>, &[u8]), Fault>
     ensures { Gives (λ x. (x.0, x.1.now)) result (register bytes.now) }
 {
@@ -79,7 +82,7 @@ fn read_register(bytes: &[u8]) -> Result<(Option<u64>, &[u8]), Fault>
     }
 }
 
-#[tactic(auto, unfolding(crate::specs::Sample::one_integer))]
+#[tactic(auto, unfolding(crate::specs::ReaderSample::one_integer))]
 fn read_one(alloc: Global, bytes: &[u8]) -> Result<(Vec<i64>, &[u8]), ReadError>
     ensures { Reads (λ x. (x.0.items, x.1.now)) result (one_integer bytes.now) }
 {
@@ -89,7 +92,7 @@ fn read_one(alloc: Global, bytes: &[u8]) -> Result<(Vec<i64>, &[u8]), ReadError>
     Ok((values, rest))
 }
 
-#[tactic(auto, unfolding(crate::specs::Sample::optional_integer))]
+#[tactic(auto, unfolding(crate::specs::ReaderSample::optional_integer))]
 fn read_optional(alloc: Global, bytes: &[u8]) -> Result<(Vec<i64>, &[u8]), ReadError>
     ensures { Reads (λ x. (x.0.items, x.1.now)) result (optional_integer bytes.now) }
 {
@@ -99,7 +102,7 @@ fn read_optional(alloc: Global, bytes: &[u8]) -> Result<(Vec<i64>, &[u8]), ReadE
     }
 }
 
-#[tactic(auto, unfolding(crate::specs::Sample::values))]
+#[tactic(auto, unfolding(crate::specs::ReaderSample::values))]
 fn read_values(alloc: Global, bytes: &[u8], kind: u8) -> Result<(Vec<i64>, &[u8]), ReadError>
     ensures { Reads (λ x. (x.0.items, x.1.now)) result (values kind bytes.now) }
 {
@@ -114,7 +117,7 @@ fn read_values(alloc: Global, bytes: &[u8], kind: u8) -> Result<(Vec<i64>, &[u8]
 type Parts<'a> = (&'a [u8], Option<u64>, Vec<u64>, u8, Vec<i64>);
 
 /// Reads a line, as `a:3/7=set (+1,-2).`
-#[tactic(auto, unfolding(crate::specs::Sample::line, crate::specs::Sample::slots))]
+#[tactic(auto, unfolding(crate::specs::ReaderSample::line, crate::specs::ReaderSample::slots))]
 pub fn read_line<'a>(alloc: Global, bytes: &'a [u8]) -> Result<(Parts<'a>, &'a [u8]), ReadError>
     ensures { Reads (λ x. (record { name = x.0.0.now; register = x.0.1; slots = x.0.2.items; kind = x.0.3; values = x.0.4.items }, x.1.now)) result (line bytes.now) }
 {

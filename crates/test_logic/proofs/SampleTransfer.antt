@@ -4,7 +4,7 @@ use Rattle.std.specs.Prelude.{codes, decimal}
 use Rattle.xan_read.specs.Reader.{Exact}
 use Rattle.xan_read.specs.Numbers.{NoDigit, number}
 use Rattle.xan_read.specs.Spelled.{Any, Spelled, IsBetween}
-use Rattle.xan_read.specs.Sample.{transfer, IsTransfer}
+use Rattle.test_logic.specs.ReaderSample.{transfer, IsTransfer}
 use Rattle.xan_read.proofs.SpelledLaws.{spelled_number, spelled_behind, spelled_field, spelled_last}
 
 register : Exact (number 0 15) (Spelled Any (IsBetween 0 15) decimal) NoDigit

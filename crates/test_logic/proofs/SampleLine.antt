@@ -10,7 +10,7 @@ use Rattle.xan_read.specs.Lists.{Ends}
 use Rattle.xan_read.specs.Numbers.{IsNumber, NoDigit}
 use Rattle.xan_read.specs.Integers.{IsInteger, IsSigned}
 use Rattle.xan_read.specs.Names.{NoName}
-use Rattle.xan_read.specs.Sample.{keywords, register, slots, coefficient, one_integer, begins_integer, optional_integer, values, line, IsRegister, AreSlots, AreValues, IsLine}
+use Rattle.test_logic.specs.ReaderSample.{keywords, register, slots, coefficient, one_integer, begins_integer, optional_integer, values, line, IsRegister, AreSlots, AreValues, IsLine}
 use Rattle.xan_read.proofs.ReaderLaws.{given, passed, exact-give, exact-in_turn, exact-behind, exact-where_comes, exact-by_next, exact_as, after_other}
 use Rattle.xan_read.proofs.NumberLaws.{exact-number, digit_first}
 use Rattle.xan_read.proofs.IntegerLaws.{exact-integer, exact-signed}

@@ -1,0 +1,2 @@
+pub mod SampleTransfer
+pub mod SampleLine
