@@ -6,7 +6,8 @@ use Rattle.std.proofs.Math.Seq.{drop-cons}
 use Rattle.std.proofs.lemmas.List.{drop_all}
 use Rattle.xan_io.specs.declared.arg.Arg.{Arg}
 use Rattle.xan_io.specs.Arguments.{arg_of}
-use Rattle.dtal_driver.specs.Words.{texts, with_arg, args_of}
+use Rattle.xan_io.specs.Words.{texts}
+use Rattle.dtal_driver.specs.Words.{with_arg, args_of}
 
 -- arguments that were read, and those that are spelled by what is left
 abbrev pub behind : List Arg → Option (List Arg) → Option (List Arg)

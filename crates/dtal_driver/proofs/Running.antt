@@ -12,7 +12,8 @@ use Rattle.dtal_machine.specs.Ending.{HasEnded}
 use Rattle.dtal_machine.specs.declared.event.Event.TheVariants.{Going, Print, Returned, NoStore, Overflow}
 use Rattle.dtal_machine.specs.Steps.{Loaded, Now, Live, Over, IsLive, event, stepped, moved, run_from, run_on}
 use Rattle.dtal_machine.proofs.Driving.{Stands, stands-going, stands-print, stands-returned, stands-no_store, stands-overflow, stands-spent}
-use Rattle.dtal_driver.specs.Answers.{number_line, number_lines}
+use Rattle.xan_io.specs.Lines.{number_line}
+use Rattle.dtal_driver.specs.Answers.{number_lines}
 use Rattle.dtal_driver.specs.declared.run.End.{End}
 use Rattle.dtal_driver.specs.declared.run.End.TheVariants as ends
 use Rattle.dtal_driver.specs.Report.{how_of}

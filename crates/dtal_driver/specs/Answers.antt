@@ -5,6 +5,7 @@ use Rattle.dtal_machine.specs.declared.refusal.Where.{Where}
 use Rattle.dtal_machine.specs.declared.refusal.Where.TheVariants as place
 use Rattle.dtal_machine.specs.declared.refusal.Rule.{Rule}
 use Rattle.dtal_machine.specs.declared.refusal.Rule.TheVariants as rules
+use Rattle.xan_io.specs.Lines.{number_line}
 use Rattle.dtal_driver.specs.declared.answer.Answer.{Answer}
 use Rattle.dtal_driver.specs.declared.answer.Answer.TheVariants.{NoCommand, ReadFailed, Memory, NotBuilt, Refused, Accepted, ArgCount, ArgKind, ArgIndex, EntryRow, Returned, Overflow}
 
@@ -30,9 +31,6 @@ numbered word number = word ++ decimal number
 
 abbrev pub numbered_line : List ℕ → ℕ → List ℕ
 numbered_line word number = numbered word number ++ codes "\n"
-
-abbrev pub number_line : ℤ → List ℕ
-number_line number = signed_decimal number ++ codes "\n"
 
 -- a line for each number
 abbrev pub number_lines : List ℤ → List ℕ

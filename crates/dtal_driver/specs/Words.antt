@@ -1,9 +1,9 @@
 -- What the words of a command line mean.
-use Rattle.std.specs.Prelude.{ℕ, Bool, true, not, ◌==◌, List, [], ◌∷◌, map, codes, Option, Some, None, option_map, if◌then◌else◌}
-use Rattle.std.specs.Borrow.{Bor}
+use Rattle.std.specs.Prelude.{ℕ, List, [], ◌∷◌, codes, Option, Some, None, option_map, if◌then◌else◌}
 use Rattle.std.specs.Str.{bytes_eq}
 use Rattle.xan_io.specs.declared.arg.Arg.{Arg}
 use Rattle.xan_io.specs.Arguments.{arg_of}
+use Rattle.xan_io.specs.Words.{is_value}
 use Rattle.dtal_driver.specs.declared.words.Command.{Command}
 use Rattle.dtal_driver.specs.declared.words.Command.TheVariants as command
 
@@ -16,11 +16,6 @@ pub data Meant : Type 0 where
 abbrev pub text_of : Meant → List ℕ
 text_of (Verify text) = text
 text_of (Run text args) = text
-
--- a word is a value unless it begins with `-` and is longer than that
-abbrev pub is_value : List ℕ → Bool
-is_value (first ∷ _ ∷ _) = not (first == 45)
-is_value _ = true
 
 -- the arguments that words spell, all of which have to spell one; no argument begins with `-`
 abbrev pub with_arg : Option Arg → Option (List Arg) → Option (List Arg)
@@ -46,10 +41,6 @@ words_mean (name ∷ text ∷ words) =
     then (if bytes_eq name (codes "verify") then verifies text words else (if bytes_eq name (codes "run") then runs text words else None))
     else None
 words_mean _ = None
-
--- the texts of names
-abbrev pub texts : List (Bor (List ℕ)) → List (List ℕ)
-texts names = map (λ name. name.now) names
 
 abbrev pub view : Command → Meant
 view (command.Verify text) = Verify text.now

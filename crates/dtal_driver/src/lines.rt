@@ -4,12 +4,12 @@ ghost use Rattle.std.specs.Prelude.{◌≡◌, ◌≤◌, OnOk, OnErr, ◌++◌,
 ghost use Rattle.std.specs.Io.KnownBytes.{append_known};
 ghost use Rattle.xan_io.specs.Faults.{Rose};
 ghost use Rattle.xan_io.specs.Written.{AppendsPrefix};
-ghost use Rattle.dtal_driver.specs.Answers.{line_of, number_line, numbered, refused_line, rule_name, where_text};
+ghost use Rattle.dtal_driver.specs.Answers.{line_of, numbered, refused_line, rule_name, where_text};
 
 use crate::answer::Answer;
 use dtal_machine::{Rule, Where};
 use itoa::Buffer;
-use xan_io::{Sink, SinkFault};
+use xan_io::{Sink, SinkFault, put_number};
 
 /// Puts the line of the answer.
 pub fn put_line<O: Sink>(out: &mut O, answer: Answer) -> Result<(), SinkFault>
@@ -43,20 +43,6 @@ pub fn put_line<O: Sink>(out: &mut O, answer: Answer) -> Result<(), SinkFault>
         Answer::Returned(word) => put_number(out, &word),
         Answer::Overflow => out.put(b"overflow\n"),
     }
-}
-
-/// Puts the line of a number.
-#[tactic(auto, using(xan_io::proofs::Puts::puts))]
-pub fn put_number<O: Sink>(out: &mut O, number: &i64) -> Result<(), SinkFault>
-    ensures appended { OnOk result (O.written out.new ≡ append_known (O.written out.old) (number_line number.now)) }
-    ensures counted { OnOk result (O.faults out.new ≡ O.faults out.old) }
-    ensures prefix { OnErr result (AppendsPrefix (O.written out.old) (O.written out.new) (number_line number.now)) }
-    ensures failed { OnErr result (Rose (O.faults out.old) (O.faults out.new)) }
-    ensures never_falls { O.faults out.old ≤ O.faults out.new }
-{
-    let mut buffer = Buffer::new();
-    let digits = buffer.format(*number).as_bytes();
-    put_two(out, digits, b"\n")
 }
 
 /// Puts a word and a number behind it.

@@ -10,9 +10,8 @@ ghost use Rattle.dtal_driver.specs.Answers.{number_lines};
 ghost use Rattle.dtal_driver.specs.Report.{answer_of, how_of, steps};
 
 use crate::answer::Answer;
-use crate::lines::put_number;
 use dtal_machine::{Event, Machine};
-use xan_io::{Sink, SinkFault};
+use xan_io::{Sink, SinkFault, put_number};
 
 /// The steps that a run may make. A straight program ends long before.
 const STEPS: u64 = 1_000_000_000;

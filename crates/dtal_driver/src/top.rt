@@ -14,7 +14,8 @@ ghost use Rattle.dtal_driver.specs.Answers.{status_of, line_of};
 ghost use Rattle.dtal_driver.specs.Promises.{IsStatus, OfText, RefusedAt, FaultyAt, RanTo, Ran, AcceptedText, Said, SaidInPart};
 ghost use Rattle.dtal_driver.specs.Causes.{Cause, TextRose, IsLoaded, IsFaulty, IsLoadedFrom, Says, Went, RunSaid};
 ghost use Rattle.dtal_driver.specs.Report.{Report, Reports, IsNoText, plain, report_text, steps};
-ghost use Rattle.dtal_driver.specs.Words.{Meant, words_mean, texts, text_of, Verify, Run};
+ghost use Rattle.dtal_driver.specs.Words.{Meant, words_mean, text_of, Verify, Run};
+ghost use Rattle.xan_io.specs.Words.{texts};
 
 use crate::answer::Answer;
 use crate::lines::put_line;

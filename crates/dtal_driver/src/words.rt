@@ -2,10 +2,11 @@
 
 ghost use Rattle.std.specs.Prelude.{◌≡◌, Some, None, Err, IfOk, IsErrOf};
 ghost use Rattle.dtal_driver.specs.Words as spec;
-ghost use Rattle.dtal_driver.specs.Words.{view, texts, args_of};
+ghost use Rattle.dtal_driver.specs.Words.{view, args_of};
+ghost use Rattle.xan_io.specs.Words.{texts};
 
 use std::alloc::{AllocFailed, Global};
-use xan_io::{Arg, ArgError, read_arg};
+use xan_io::{Arg, ArgError, is_value, read_arg};
 
 /// A command, over the text of a name.
 #[derive(Drop)]
@@ -73,15 +74,6 @@ fn read_args(alloc: Global, words: &[&str]) -> Result<Vec<Arg>, WordsError>
         }
     }
     Ok(args)
-}
-
-fn is_value(word: &str) -> bool
-    ensures { result ≡ spec.is_value word.now }
-{
-    match word.as_bytes() {
-        [b'-', _, ..] => false,
-        _ => true,
-    }
 }
 
 impl<T: Drop> From<AllocFailed<T>> for WordsError {

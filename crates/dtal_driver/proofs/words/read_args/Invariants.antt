@@ -1,5 +1,6 @@
 use Rattle.std.proofs.Common.{◌≡◌, drop}
-use Rattle.dtal_driver.specs.Words.{texts, args_of}
+use Rattle.xan_io.specs.Words.{texts}
+use Rattle.dtal_driver.specs.Words.{args_of}
 use Rattle.dtal_driver.proofs.Arguments.{behind}
 use Rattle.dtal_driver.proofs.words.read_args.Given as goal
 
