@@ -13,7 +13,7 @@ enum End {
     Fault(u32),
 }
 
-fn end(alloc: Global, source: &[u8]) -> Option<End> {
+fn find_end(alloc: Global, source: &[u8]) -> Option<End> {
     match answer(alloc, source)? {
         Ok(_tree) => Some(End::Tree),
         Err(ParseError::Nesting) => Some(End::Nesting),
@@ -23,11 +23,11 @@ fn end(alloc: Global, source: &[u8]) -> Option<End> {
 }
 
 fn has_tree(alloc: Global, source: &[u8]) -> bool {
-    end(alloc, source) == Some(End::Tree)
+    find_end(alloc, source) == Some(End::Tree)
 }
 
 fn faults_at(alloc: Global, source: &[u8], at: u32) -> bool {
-    end(alloc, source) == Some(End::Fault(at))
+    find_end(alloc, source) == Some(End::Fault(at))
 }
 
 /// A source with `text` in the place of a statement.
@@ -169,7 +169,7 @@ fn nested(alloc: Global, open: &[u8], close: &[u8], count: u32) -> Option<Vec<u8
 }
 
 fn nested_answer(alloc: Global, open: &[u8], close: &[u8], count: u32) -> Option<End> {
-    end(alloc, &nested(alloc, open, close, count)?)
+    find_end(alloc, &nested(alloc, open, close, count)?)
 }
 
 /// Groups of each kind: what opens one, and what closes it.
