@@ -286,7 +286,8 @@ fn each_call_fails_once(rt: HostRuntime) -> Result<(), Fail> {
     )?;
     assert_eq!(rt; read.status, 3);
     assert!(rt; read.said.as_slice() == b"read: failed\n".as_slice());
-    for put in 0..4u64 {
+    // Each line is one piece: the run puts twice.
+    for put in 0..2u64 {
         let cut = run(
             alloc,
             RUN_ECHO,
