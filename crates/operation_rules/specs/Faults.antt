@@ -4,22 +4,8 @@ use Rattle.xan_lin.specs.declared.term.TooLarge.{TooLarge}
 use Rattle.index_sorts.specs.declared.error.ContextError.{ContextError}
 use Rattle.state_types.specs.Answers.{Check}
 use Rattle.state_types.specs.declared.error.StateError.TheVariants as state_error
-
-pub data Fault : Type 0 where
-  -- there is no such function
-  NoTarget : Fault
-  -- there is no such type, or it is one of cells where a tuple type is asked for
-  NoType : Fault
-  -- a place that is read has no type
-  NoPlace : Fault
-  -- another number of operands or parts
-  WrongCount : Fault
-  -- another kind or type number than asked for
-  WrongKind : Fault
-  -- a needed form is past the bounds
-  Large : TooLarge → Fault
-  -- there are too many variables or rows
-  Full : ContextError → Fault
+pub use Rattle.operation_rules.specs.declared.error.Fault.{Fault}
+pub use Rattle.operation_rules.specs.declared.error.Fault.TheVariants.{NoTarget, NoType, NoPlace, WrongCount, WrongKind, Large, Full}
 
 abbrev pub Ruling : Type 0 → Type 0
 Ruling A = Result A Fault

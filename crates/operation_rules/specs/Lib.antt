@@ -2,6 +2,7 @@ pub mod Operations
 pub mod Effects
 pub mod FlatWords
 pub mod Faults
+pub mod Answers
 pub mod Forms
 pub mod Rules
 pub mod Applied

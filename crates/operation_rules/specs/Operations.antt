@@ -1,38 +1,12 @@
 -- The operations that a source's constructs, the code over places and the text's instructions have in common.
-use Rattle.std.specs.Prelude.{ℕ, ℤ, Bool, Option, Some, None}
-
--- A comparison is a number: 0 less, 1 at most, 2 equal, and else unequal. Types and functions are named by number.
-pub data Operation : Type 0 where
-  Literal : ℤ → Operation
-  Truth : Bool → Operation
-  Move : Operation
-  Add : Operation
-  Sub : Operation
-  Mul : Operation
-  Div : Operation
-  Mod : Operation
-  Compare : (comparison : ℕ) → Operation
-  -- the three that may go elsewhere
-  Branch : (comparison : ℕ) → Operation
-  BranchTruth : Bool → Operation
-  Jump : Operation
-  Call : (fun : ℕ) → Operation
-  Return : Operation
-  Length : Operation
-  Load : Operation
-  Store : Operation
-  -- an array of cells of a type
-  New : (cells : ℕ) → Operation
-  Tuple : (number : ℕ) → Operation
-  -- the parts of a tuple, so many of them
-  Untuple : (number count : ℕ) → Operation
-  Print : Operation
+use Rattle.std.specs.Prelude.{ℕ, Some, None}
+-- They, and what each needs, are those of the code. A comparison is a number: 0 less, 1 at most, 2 equal, and else unequal. Types and functions are
+-- named by number.
+pub use Rattle.operation_rules.specs.declared.operation.Operation.{Operation}
+pub use Rattle.operation_rules.specs.declared.operation.Operation.TheVariants.{Literal, Truth, Move, Add, Sub, Mul, Div, Mod, Compare, Branch, BranchTruth, Jump, Call, Return, Length, Load, Store, New, Tuple, Untuple, Print}
+pub use Rattle.operation_rules.specs.declared.operation.Needs.{Needs}
 
 -- ---- what an operation needs: how many places it reads and writes; none is as many as are listed with it
-
-pub record Needs : Type 0 where
-  pub reads : Option ℕ
-  pub writes : ℕ
 
 abbrev pub fixed : ℕ → ℕ → Needs
 fixed reads writes = record { reads = Some reads; writes = writes }

@@ -16,20 +16,15 @@ use Rattle.operation_rules.specs.Faults.{Ruling, NoTarget, NoType, WrongCount, W
 use Rattle.xan_lin.specs.Linear.{excess_of}
 use Rattle.operation_rules.specs.Forms.{constant_form, number_of, quotient_rows, remainder_rows, variables_from}
 use Rattle.operation_rules.specs.Operations.{Operation, Literal, Truth, Move, Add, Sub, Mul, Div, Mod, Compare, Branch, BranchTruth, Jump, Call, Return, Length, Load, Store, New, Tuple, Untuple, Print}
+-- A rule is data: what is demanded, in order; how many fresh variables there are; which rows are taken to hold, where they are within the
+-- bounds; and the types of what is written, which have to be. It is that of the code.
+pub use Rattle.operation_rules.specs.declared.rule.Rule.{Rule}
 
 -- the closed types, the signatures, and the signature of the function in which the operation stands
 pub record Setting : Type 0 where
   pub table : List Packed
   pub sigs : List Signature
   pub own : Signature
-
--- A rule is data: what is demanded, in order; how many fresh variables there are; which rows are taken to hold, where they are within the
--- bounds; and the types of what is written, which have to be.
-pub record Rule : Type 0 where
-  pub demands : List Linear
-  pub fresh : ℕ
-  pub assumed : List (Result Linear TooLarge)
-  pub given : List (Result Ty TooLarge)
 
 -- ---- kinds of rules
 

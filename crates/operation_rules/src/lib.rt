@@ -5,6 +5,13 @@
 //! `state_types`, `index_sorts` and `xan_lin` for types, and on `xan_io` for ends and arguments.
 #![tactic(auto)]
 
+mod error;
 mod laws;
+mod operands;
+mod operation;
+mod rule;
 
+pub use crate::error::{Fault, RuleError};
 pub use crate::laws::{flat_words_are_stores, operations_are_sound};
+pub use crate::operation::{Needs, Operation, needs_of};
+pub use crate::rule::Rule;
