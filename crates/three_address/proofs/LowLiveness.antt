@@ -1,0 +1,36 @@
+-- Live places and intervals of the sum of an array, worked out by hand.
+use Rattle.std.proofs.Common.{◌≡◌, List, [], ◌∷◌, Bool, true, false, refl, arith}
+use Rattle.std.specs.List.{slice_index_or}
+use Rattle.three_address.specs.Flow.{instruction_at, reads_at, writes_at, ways_from}
+use Rattle.three_address.specs.Instructions.{instruction_of}
+use Rattle.three_address.specs.Liveness.{Live}
+use Rattle.three_address.proofs.LiveTables.{tabulated, round, rounds, rounds-live, live-found}
+use Rattle.three_address.proofs.LowSources.{sum_fun}
+
+abbrev sum_table : List (List Bool)
+sum_table = rounds sum_fun 12
+
+-- a further round finds no more
+sum_done : round sum_fun sum_table ≡ sum_table
+unfolding rounds round tabulated reads_at writes_at ways_from instruction_at instruction_of
+sum_done = refl
+
+-- at the head of the loop the array, the index and the sum are live; behind it the sum alone is
+sum_head : slice_index_or sum_table 3 [] ≡ true ∷ true ∷ true ∷ false ∷ []
+unfolding rounds round tabulated reads_at writes_at ways_from instruction_at instruction_of
+sum_head = refl
+
+sum_behind : slice_index_or sum_table 10 [] ≡ false ∷ false ∷ true ∷ false ∷ []
+unfolding rounds round tabulated reads_at writes_at ways_from instruction_at instruction_of
+sum_behind = refl
+
+index_live : Live sum_fun 3 1
+unfolding rounds round tabulated reads_at writes_at ways_from instruction_at instruction_of
+index_live = rounds-live sum_fun 12 3 1 refl
+
+false-true : false ≡ true → ⊥
+false-true e = cc
+
+index_not_live : Live sum_fun 10 1 → ⊥
+unfolding rounds round tabulated reads_at writes_at ways_from instruction_at instruction_of
+index_not_live live = false-true (live-found sum_fun sum_table sum_done 10 1 (omega arith) live)

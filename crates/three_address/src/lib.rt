@@ -1,0 +1,18 @@
+//! The code over places: what lowering makes of a source, before places become registers and slots.
+//!
+//! Its instructions are those of the text, over the places of a function, numbered from 0. `specs/` says what such code does, what it is for
+//! it to be typed, which places are live, and which functions need slots. It stands on `operation_rules`, where each operation's effect and
+//! rule are said once.
+#![tactic(auto)]
+
+mod assignment;
+mod function;
+mod instruction;
+mod laws;
+mod typed;
+
+pub use crate::assignment::{Assignment, REGISTERS};
+pub use crate::function::{LowFun, Lowered, PLACES};
+pub use crate::instruction::{LowInstr, Op22};
+pub use crate::laws::low_runs_are_steady;
+pub use crate::typed::{Edge, ProvedRow, Typed};
