@@ -2,7 +2,7 @@
 use Rattle.std.proofs.Common.{◌≡◌, ℕ, ℤ, pos, negsuc, List, [], ◌∷◌, ◌++◌, codes, replicate, Some, None, refl}
 use Rattle.xan_io.specs.Outcome.{Returned, NoStore, Overflow, Stuck}
 use Rattle.operation_rules.specs.Effects.{cells_from}
-use Rattle.operation_rules.specs.Operations.{Untuple}
+use Rattle.operation_rules.specs.declared.operation.Operation.TheVariants.{Untuple}
 use Rattle.state_types.specs.Words.{header_from}
 use Rattle.three_address.specs.Instructions.{instruction_of}
 use Rattle.three_address.specs.Machine.{Activation, State, Next, On, Off, step, words_in, with_words, places_of}

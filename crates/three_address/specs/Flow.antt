@@ -1,6 +1,7 @@
 -- Where control goes in a function.
 use Rattle.std.specs.Prelude.{ℕ, zero, suc, List, [], ◌∷◌, Option, Some, None, option_to_list, slice_get}
-use Rattle.operation_rules.specs.Operations.{Operation, Branch, BranchTruth, Jump, Return}
+use Rattle.operation_rules.specs.declared.operation.Operation.{Operation}
+use Rattle.operation_rules.specs.declared.operation.Operation.TheVariants.{Branch, BranchTruth, Jump, Return}
 use Rattle.three_address.specs.Instructions.{Instruction, instruction_of}
 use Rattle.three_address.specs.declared.function.LowFun.{LowFun}
 use Rattle.three_address.specs.declared.instruction.LowInstr.{LowInstr}

@@ -1,6 +1,8 @@
 -- What an instruction of the code over places is: an operation of the common table, with the places that it writes and those that it reads.
 use Rattle.std.specs.Prelude.{ℕ, zero, suc, ◌+◌, ◌-◌, ◌==◌, ℤ, pos, negsuc, Bool, true, false, List, length, take, drop, Option, Some, None, nat_lt, nat_le, if◌then◌else◌}
-use Rattle.operation_rules.specs.Operations.{Operation, needs, Literal, Truth, Move, Add, Sub, Mul, Div, Mod, Compare, Branch, BranchTruth, Jump, Call, Return, Length, Load, Store, New, Tuple, Untuple, Print}
+use Rattle.operation_rules.specs.declared.operation.Operation.{Operation}
+use Rattle.operation_rules.specs.declared.operation.Operation.TheVariants.{Literal, Truth, Move, Add, Sub, Mul, Div, Mod, Compare, Branch, BranchTruth, Jump, Call, Return, Length, Load, Store, New, Tuple, Untuple, Print}
+use Rattle.operation_rules.specs.Operations.{needs}
 use Rattle.three_address.specs.declared.instruction.LowInstr.{LowInstr}
 use Rattle.three_address.specs.declared.instruction.Op22.{Op22}
 use Rattle.three_address.specs.declared.instruction.Op22.TheVariants as op

@@ -15,7 +15,8 @@ use Rattle.state_types.specs.declared.types.Ty.{Ty}
 use Rattle.state_types.specs.declared.types.Ty.TheVariants as ty
 use Rattle.operation_rules.specs.Applied.{Ruled, all_assuming, all_there, ruled}
 use Rattle.operation_rules.specs.Faults.{Ruling}
-use Rattle.operation_rules.specs.Operations.{Operation, Branch, BranchTruth, Jump, Return}
+use Rattle.operation_rules.specs.declared.operation.Operation.{Operation}
+use Rattle.operation_rules.specs.declared.operation.Operation.TheVariants.{Branch, BranchTruth, Jump, Return}
 use Rattle.operation_rules.specs.Rules.{Setting, tuple_at}
 use Rattle.operation_rules.specs.Sides.{side}
 use Rattle.operation_rules.specs.Sound.{IsSetting}
