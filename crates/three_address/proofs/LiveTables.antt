@@ -8,17 +8,17 @@ use Rattle.std.proofs.lemmas.List.{get_or_past}
 use Rattle.std.proofs.lemmas.List.Folds.{list_any_at}
 use Rattle.std.proofs.lemmas.Map.Views.{Contains-from_any}
 use Rattle.three_address.specs.declared.function.LowFun.{LowFun}
-use Rattle.three_address.specs.Flow.{label_at, target_of, instruction_at, with_instruction, reads_of, ways_of, reads_at, writes_at, ways_from}
+use Rattle.three_address.specs.Flow.{label_at, target_of, instruction_at, with_instruction, reads_of, writes_of, ways_of, reads_at, writes_at, ways_from}
 use Rattle.three_address.specs.Instructions.{instruction_of}
 use Rattle.three_address.specs.Liveness.{Live, Read, Kept}
 
 -- ---- truth values
 
-either : (a b : Bool) → (a || b) ≡ true → (a ≡ true) ⊎ (b ≡ true)
+pub either : (a b : Bool) → (a || b) ≡ true → (a ≡ true) ⊎ (b ≡ true)
 either true b e = inl refl
 either false b e = inr e
 
-both : (a b : Bool) → (a && b) ≡ true → (a ≡ true) × (b ≡ true)
+pub both : (a b : Bool) → (a && b) ≡ true → (a ≡ true) × (b ≡ true)
 both true b e = (refl, e)
 both false b e = absurd (false-true e)
   where
@@ -186,7 +186,7 @@ not-there : (b : Bool) → (b ≡ true → ⊥) → not b ≡ true
 not-there true h = absurd (h refl)
 not-there false h = refl
 
-and-true : (a b : Bool) → a ≡ true → b ≡ true → (a && b) ≡ true
+pub and-true : (a b : Bool) → a ≡ true → b ≡ true → (a && b) ≡ true
 and-true a b e f = cc
 
 pub live-found : (fun : LowFun) (table : List (List Bool)) → round fun table ≡ table → (at place : ℕ) → place < fun.places → Live fun at place
@@ -198,3 +198,16 @@ live-found fun table fix at place lt (Kept _ next _ way unwritten later) =
     ap (λ t. bit t at place) (sym fix) ∙ bit-is fun table at place (way-within fun at next way) lt
     ∙ right_true _ _ (and-true _ _ (not-there _ (λ h. unwritten (has-there _ place h)))
     (there-any (λ n. bit table n place) (ways_from fun at) next way (live-found fun table fix next place lt later)))
+
+-- ---- what is live or written stands within the code
+
+pub live-within : (fun : LowFun) (at place : ℕ) → Live fun at place → at < length fun.code
+live-within fun at place (Read _ _ c) = read-within fun at place c
+live-within fun at place (Kept _ next _ way unwritten later) = way-within fun at next way
+
+pub written-within : (fun : LowFun) (at place : ℕ) → Contains (writes_at fun at) place → at < length fun.code
+unfolding writes_at
+written-within fun at place c = elim (cases_lt at (length fun.code)) [
+  | inl h ↦ h
+  | inr h ↦ absurd (omega (arith, ap (λ o. length (writes_of o)) (none-past fun at h), c.1))
+]

@@ -3,7 +3,9 @@ use Rattle.std.proofs.Common.{◌≡◌, List, [], ◌∷◌, Bool, true, false,
 use Rattle.std.specs.List.{slice_index_or}
 use Rattle.three_address.specs.Flow.{instruction_at, reads_at, writes_at, ways_from}
 use Rattle.three_address.specs.Instructions.{instruction_of}
+use Rattle.three_address.specs.Intervals.{IsInterval}
 use Rattle.three_address.specs.Liveness.{Live}
+use Rattle.three_address.proofs.HeldRanges.{first_from, last_from, is-interval}
 use Rattle.three_address.proofs.LiveTables.{tabulated, round, rounds, rounds-live, live-found}
 use Rattle.three_address.proofs.LowSources.{sum_fun}
 
@@ -34,3 +36,21 @@ false-true e = cc
 index_not_live : Live sum_fun 10 1 → ⊥
 unfolding rounds round tabulated reads_at writes_at ways_from instruction_at instruction_of
 index_not_live live = false-true (live-found sum_fun sum_table sum_done 10 1 (omega arith) live)
+
+-- ---- intervals: of the array, the index, the sum and the temporary
+
+array_interval : IsInterval sum_fun 0 0 9
+unfolding rounds round tabulated first_from last_from reads_at writes_at ways_from instruction_at instruction_of
+array_interval = is-interval sum_fun 12 sum_done (omega arith) 0 (omega arith) 0 9 refl refl
+
+index_interval : IsInterval sum_fun 1 0 9
+unfolding rounds round tabulated first_from last_from reads_at writes_at ways_from instruction_at instruction_of
+index_interval = is-interval sum_fun 12 sum_done (omega arith) 1 (omega arith) 0 9 refl refl
+
+sum_interval : IsInterval sum_fun 2 1 10
+unfolding rounds round tabulated first_from last_from reads_at writes_at ways_from instruction_at instruction_of
+sum_interval = is-interval sum_fun 12 sum_done (omega arith) 2 (omega arith) 1 10 refl refl
+
+temporary_interval : IsInterval sum_fun 3 3 8
+unfolding rounds round tabulated first_from last_from reads_at writes_at ways_from instruction_at instruction_of
+temporary_interval = is-interval sum_fun 12 sum_done (omega arith) 3 (omega arith) 3 8 refl refl
