@@ -1,14 +1,13 @@
 -- Intervals by a table of live places.
-use Rattle.std.proofs.Common.{◌≡◌, ℕ, zero, suc, ◌+◌, ◌==◌, ◌<◌, ◌≤◌, Bool, true, false, ◌||◌, ◌&&◌, nat_lt, ◌⊎◌, inl, inr, List, [], length, Option, Some, None, refl, sym, ap, ◌∙◌, subst, arith}
-use Rattle.std.specs.List.{Contains}
+use Rattle.std.proofs.Common.{◌≡◌, ℕ, zero, suc, ◌+◌, ◌==◌, ◌<◌, ◌≤◌, Bool, true, false, ◌||◌, ◌&&◌, nat_lt, inl, inr, List, length, Option, Some, None, refl, sym, ap, ◌∙◌, subst, arith}
 use Rattle.std.proofs.lemmas.Bool.{cases_lt, eqb-true}
 use Rattle.std.proofs.lemmas.Bool.Decides.{nat_tests}
 use Rattle.std.proofs.lemmas.Option.{none-some}
 use Rattle.three_address.specs.declared.function.LowFun.{LowFun}
 use Rattle.three_address.specs.Flow.{writes_at}
 use Rattle.three_address.specs.Intervals.{Held, IsLive, IsWritten, IsParameter, IsInterval}
-use Rattle.three_address.specs.Liveness.{Live}
-use Rattle.three_address.proofs.LiveTables.{either, both, and-true, left_true, right_true, has, there-has, has-there, bit, round, rounds, rounds-live, live-found, live-within, written-within}
+use Rattle.three_address.specs.LiveTables.{has, bit, round, rounds}
+use Rattle.three_address.proofs.LiveRounds.{either, both, and-true, left_true, right_true, there-has, has-there, rounds-live, live-found, live-within, written-within}
 
 -- ---- the first and the last of so many numbers from one on that pass a test
 

@@ -1,7 +1,8 @@
 pub mod LowSteps
-pub mod LiveTables
+pub mod LiveRounds
 pub mod HeldRanges
 pub mod LowSources
 pub mod LowRuns
 pub mod EachInstruction
 pub mod LowLiveness
+pub mod LowTyping

@@ -6,7 +6,8 @@ use Rattle.three_address.specs.Instructions.{instruction_of}
 use Rattle.three_address.specs.Intervals.{IsInterval}
 use Rattle.three_address.specs.Liveness.{Live}
 use Rattle.three_address.proofs.HeldRanges.{first_from, last_from, is-interval}
-use Rattle.three_address.proofs.LiveTables.{tabulated, round, rounds, rounds-live, live-found}
+use Rattle.three_address.specs.LiveTables.{tabulated, round, rounds}
+use Rattle.three_address.proofs.LiveRounds.{rounds-live, live-found}
 use Rattle.three_address.proofs.LowSources.{sum_fun}
 
 abbrev sum_table : List (List Bool)

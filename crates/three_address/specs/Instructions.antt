@@ -1,5 +1,6 @@
 -- What an instruction of the code over places is: an operation of the common table, with the places that it writes and those that it reads.
-use Rattle.std.specs.Prelude.{ℕ, zero, suc, ◌+◌, ◌-◌, ◌==◌, ℤ, pos, negsuc, Bool, true, false, List, length, take, drop, Option, Some, None, nat_lt, nat_le, if◌then◌else◌}
+use Rattle.std.specs.Prelude.{ℕ, zero, suc, ◌+◌, ◌-◌, ◌==◌, ℤ, pos, negsuc, Bool, true, false, List, length, take, drop, Option, Some, None, nat_lt, nat_le, if◌then◌else◌, ◌≢◌, [], ◌∷◌}
+use Rattle.std.specs.List.{All}
 use Rattle.operation_rules.specs.declared.operation.Operation.{Operation}
 use Rattle.operation_rules.specs.declared.operation.Operation.TheVariants.{Literal, Truth, Move, Add, Sub, Mul, Div, Mod, Compare, Branch, BranchTruth, Jump, Call, Return, Length, Load, Store, New, Tuple, Untuple, Print}
 use Rattle.operation_rules.specs.Operations.{needs}
@@ -80,3 +81,8 @@ with_operation (Some operation) places = if_enough operation places
 -- none, where it has not the places and the number of its form
 unfoldable pub instruction_of : LowInstr → Option Instruction
 instruction_of i = with_operation (operation_of i.op i.number i.target (length i.places)) i.places
+
+-- no place stands twice
+abbrev pub AreDifferent : List ℕ → Type 0
+AreDifferent [] = Unit {0}
+AreDifferent (place ∷ places) = All (λ other. place ≢ other) places × AreDifferent places

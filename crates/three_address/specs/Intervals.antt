@@ -1,7 +1,8 @@
 -- For how long a place has to keep its word, and which functions have more words to keep at once than there are registers.
-use Rattle.std.specs.Prelude.{ℕ, ◌<◌, ◌≤◌, ◌==◌, List, length}
-use Rattle.std.specs.List.{All, Contains, IsDistinct}
+use Rattle.std.specs.Prelude.{ℕ, ◌<◌, ◌≤◌, List, length}
+use Rattle.std.specs.List.{All, Contains}
 use Rattle.three_address.specs.Flow.{writes_at}
+use Rattle.three_address.specs.Instructions.{AreDifferent}
 use Rattle.three_address.specs.Liveness.{Live}
 use Rattle.three_address.specs.declared.assignment.TheConstants.{REGISTERS}
 use Rattle.three_address.specs.declared.function.LowFun.{LowFun}
@@ -30,6 +31,6 @@ pub record Covers (fun : LowFun) (at place : ℕ) : Type 0 where
 pub record NeedsSlots (fun : LowFun) : Type 0 where
   pub at : ℕ
   pub places : List ℕ
-  pub differ : IsDistinct (λ a b. a == b) places
+  pub differ : AreDifferent places
   pub cover : All (Covers fun at) places
   pub many : REGISTERS < length places

@@ -5,4 +5,5 @@ pub mod Entry
 pub mod Demands
 pub mod Typing
 pub mod Liveness
+pub mod LiveTables
 pub mod Intervals

@@ -1,6 +1,6 @@
 -- What it is for the code over places to be typed: each instruction stands in a state type that its rule allows.
-use Rattle.std.specs.Prelude.{◌≡◌, ℕ, suc, ◌<◌, ◌≤◌, ◌==◌, true, false, List, [], ◌∷◌, map, length, slice_get, Option, Some, None, Result, Ok}
-use Rattle.std.specs.List.{All, AllZip, Contains, IsDistinct}
+use Rattle.std.specs.Prelude.{◌≡◌, ℕ, suc, ◌<◌, ◌≤◌, true, false, List, [], ◌∷◌, map, length, slice_get, Option, Some, None, Result, Ok}
+use Rattle.std.specs.List.{All, AllZip, Contains}
 use Rattle.index_sorts.specs.Context.{IndexContext, NamesBelow, new_context}
 use Rattle.index_sorts.specs.declared.error.ContextError.{ContextError}
 use Rattle.xan_lin.specs.Linear.{Linear}
@@ -21,7 +21,7 @@ use Rattle.operation_rules.specs.Rules.{Setting, tuple_at}
 use Rattle.operation_rules.specs.Sides.{side}
 use Rattle.operation_rules.specs.Sound.{IsSetting}
 use Rattle.three_address.specs.Demands.{Demand, demands_of, label_demands, AreProved}
-use Rattle.three_address.specs.Instructions.{Instruction, instruction_of}
+use Rattle.three_address.specs.Instructions.{Instruction, instruction_of, AreDifferent}
 use Rattle.three_address.specs.declared.function.LowFun.{LowFun}
 use Rattle.three_address.specs.declared.function.Lowered.{Lowered}
 use Rattle.three_address.specs.declared.function.TheConstants.{PLACES}
@@ -118,7 +118,7 @@ pub record Allows (st : Setting) (places : ℕ) (labels : List StateType) (state
   pub i : Instruction
   pub is : instruction_of instr ≡ Some i
   pub small : All (λ place. place < places) instr.places
-  pub differ : IsDistinct (λ a b. a == b) i.writes
+  pub differ : AreDifferent i.writes
   pub types : List Ty
   pub read : all_there (map (λ place. type_at place state.places) i.reads) ≡ Ok types
   pub ruled : Ruled

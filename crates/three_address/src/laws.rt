@@ -1,12 +1,26 @@
-//! Runs of the code over places.
+//! Runs of the code over places, and its live places.
 
-ghost use Rattle.std.specs.Prelude.{ℕ, List};
+ghost use Rattle.std.specs.Prelude.{◌≡◌, ℕ, ◌<◌, List, Bool as Truth, true};
 ghost use Rattle.xan_io.specs.Agreement.{IsSteady};
 ghost use Rattle.xan_io.specs.declared.arg.Arg.{Arg};
+ghost use Rattle.three_address.specs.LiveTables.{bit, round, rounds};
+ghost use Rattle.three_address.specs.Liveness.{Live};
+ghost use Rattle.three_address.specs.declared.function.LowFun.{LowFun};
 ghost use Rattle.three_address.specs.declared.function.Lowered.{Lowered};
 ghost use Rattle.three_address.specs.Entry.{low_outcome};
 
 /// A run is steady: an end stays, and what was printed stays printed.
 pub fn low_runs_are_steady()
     ensures { (program : Lowered) (args : List Arg) (heap depth : ℕ) → IsSteady (low_outcome program args heap depth) }
+{}
+
+/// What rounds from the empty table find is live.
+pub fn found_places_are_live()
+    ensures { (fun : LowFun) (count at place : ℕ) → bit (rounds fun count) at place ≡ true → Live fun at place }
+{}
+
+/// A table that a round leaves as it is has each live place of the function.
+pub fn steady_tables_have_all_live_places()
+    ensures { (fun : LowFun) (table : List (List Truth)) → round fun table ≡ table → (at place : ℕ) → place < fun.places → Live fun at place
+        → bit table at place ≡ true }
 {}

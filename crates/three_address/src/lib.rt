@@ -14,5 +14,7 @@ mod typed;
 pub use crate::assignment::{Assignment, REGISTERS};
 pub use crate::function::{LowFun, Lowered, PLACES};
 pub use crate::instruction::{LowInstr, Op22};
-pub use crate::laws::low_runs_are_steady;
+pub use crate::laws::{
+    found_places_are_live, low_runs_are_steady, steady_tables_have_all_live_places,
+};
 pub use crate::typed::{Edge, ProvedRow, Typed};

@@ -1,5 +1,4 @@
--- Live places as a table: for each position a row with a truth value for each place. Rounds from the empty table find them, and a table that a
--- round leaves as it is has them all.
+-- Rounds from the empty table find live places, and a table that a round leaves as it is has all of them.
 use Rattle.std.proofs.Common.{◌≡◌, ℕ, zero, suc, ◌+◌, ◌==◌, ◌<◌, ◌≤◌, Bool, true, false, not, ◌&&◌, ◌||◌, ◌⊎◌, inl, inr, List, [], ◌∷◌, length, None, slice_get, refl, sym, ap, ◌∙◌, arith, zero-add}
 use Rattle.std.specs.List.{Contains, list_any, slice_index_or}
 use Rattle.std.proofs.lemmas.Bool.{cases_lt, eqb-true}
@@ -10,6 +9,7 @@ use Rattle.std.proofs.lemmas.Map.Views.{Contains-from_any}
 use Rattle.three_address.specs.declared.function.LowFun.{LowFun}
 use Rattle.three_address.specs.Flow.{label_at, target_of, instruction_at, with_instruction, reads_of, writes_of, ways_of, reads_at, writes_at, ways_from}
 use Rattle.three_address.specs.Instructions.{instruction_of}
+use Rattle.three_address.specs.LiveTables.{has, tabulated, bit, lives, live_row, round, rounds}
 use Rattle.three_address.specs.Liveness.{Live, Read, Kept}
 
 -- ---- truth values
@@ -35,9 +35,6 @@ right_true false b e = e
 
 -- ---- elements of lists of numbers
 
-abbrev pub has : List ℕ → ℕ → Bool
-has xs x = list_any (λ y. x == y) xs
-
 pub has-there : (xs : List ℕ) (x : ℕ) → has xs x ≡ true → Contains xs x
 has-there xs x e = Contains-from_any (λ a b. eqb-true a b) x xs e
 
@@ -56,10 +53,6 @@ there-any p xs x c e = list_any_at p xs c.0 x c.1 (ap p c.2 ∙ e)
 
 -- ---- tables
 
-unfoldable pub tabulated : {A : Type 0} → (ℕ → A) → (from count : ℕ) → List A
-tabulated f from zero = []
-tabulated f from (suc count) = f from ∷ tabulated f (suc from) count
-
 length-tabulated : {A : Type 0} (f : ℕ → A) (from count : ℕ) → length (tabulated f from count) ≡ count
 unfolding tabulated
 length-tabulated f from zero = refl
@@ -76,24 +69,6 @@ get-tabulated f d from (suc count) (suc i) h =
 
 get-first : {A : Type 0} (f : ℕ → A) (d : A) (count i : ℕ) → i < count → slice_index_or (tabulated f 0 count) i d ≡ f i
 get-first f d count i h = get-tabulated f d 0 count i h ∙ ap f (zero-add i)
-
-abbrev pub bit : List (List Bool) → (at place : ℕ) → Bool
-bit table at place = slice_index_or (slice_index_or table at []) place false
-
--- the place is live before the instruction at a position, by the table behind it
-abbrev pub lives : LowFun → List (List Bool) → (at place : ℕ) → Bool
-lives fun table at place =
-    has (reads_at fun at) place || (not (has (writes_at fun at) place) && list_any (λ next. bit table next place) (ways_from fun at))
-
-abbrev pub live_row : LowFun → List (List Bool) → (at : ℕ) → List Bool
-live_row fun table at = tabulated (lives fun table at) 0 fun.places
-
-unfoldable pub round : LowFun → List (List Bool) → List (List Bool)
-round fun table = tabulated (live_row fun table) 0 (length fun.code)
-
-unfoldable pub rounds : LowFun → ℕ → List (List Bool)
-rounds fun zero = []
-rounds fun (suc count) = round fun (rounds fun count)
 
 -- ---- one round
 
