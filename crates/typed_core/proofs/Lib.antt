@@ -10,3 +10,5 @@ pub mod FitTests
 pub mod FitJoins
 pub mod FitStatements
 pub mod FitPrograms
+mod RunSources
+mod RunExamples

@@ -10,3 +10,10 @@ pub mod Statements
 pub mod Goals
 pub mod Reached
 pub mod Proving
+pub mod SourceValues
+pub mod SourceRuns
+pub mod SourceOperands
+pub mod SourceTests
+pub mod SourceStatements
+pub mod SourceCalls
+pub mod Meaning

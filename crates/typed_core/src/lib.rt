@@ -2,7 +2,8 @@
 //! the core of which all goals are proved.
 //!
 //! The definition of the goals of a core stands in `specs/`. [`Elaborated`] keeps that its parts are those of the definition, and
-//! [`Proved`] that each of its lists of lines proves the goal of its place. It stands on `xanadu_tree` for cores, on `state_types` for
+//! [`Proved`] that each of its lists of lines proves the goal of its place. The meaning of a core stands there too, on `operation_rules`.
+//! The crate stands on `xanadu_tree` for cores, on `state_types` for
 //! types and what matches demand, and on `proof_lines` for lines.
 #![tactic(auto)]
 
