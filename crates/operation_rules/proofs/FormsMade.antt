@@ -1,5 +1,5 @@
 -- Forms that rules make, as calls of `xan_lin` make them.
-use Rattle.std.proofs.Common.{◌≡◌, ◌≢◌, ◌∙◌, ℕ, zero, suc, ℤ, pos, negsuc, ◌-ℤ◌, ◌≤ℤ◌, List, [], ◌∷◌, true, Option, Some, Result, Ok, refl, sym, ap, arith}
+use Rattle.std.proofs.Common.{◌≡◌, ◌≢◌, ◌∙◌, ℕ, zero, suc, ℤ, pos, negsuc, ◌-ℤ◌, ◌≤ℤ◌, [], ◌∷◌, true, Option, Some, Result, Ok, refl, sym, ap, arith}
 use Rattle.std.proofs.lemmas.Int.{ints}
 use Rattle.xan_lin.specs.Linear.{Linear, is_within, all_within, sized, form_of, difference_of}
 use Rattle.xan_lin.specs.declared.term.Term.{Term}

@@ -1,12 +1,12 @@
 -- The types of places that are read.
-use Rattle.std.proofs.Common.{◌≡◌, ◌∙◌, ℕ, ◌+◌, List, [], ◌∷◌, ◌++◌, append_assoc, append-nil, Option, Some, None, Result, Ok, Err, refl, sym, ap, subst}
+use Rattle.std.proofs.Common.{◌≡◌, ◌∙◌, ℕ, ◌+◌, List, [], ◌∷◌, ◌++◌, append_assoc, append-nil, Option, Some, Ok, Err, refl, sym, ap, subst}
 use Rattle.std.specs.List.{All}
 use Rattle.std.proofs.lemmas.List.Elements.{All-nil, All-cons, All-head, All-tail}
 use Rattle.state_types.specs.Types.{TypeBelow}
 use Rattle.state_types.specs.declared.types.Ty.{Ty}
 use Rattle.state_types.proofs.Thens.{then_ok, ok_same}
 use Rattle.operation_rules.specs.Applied.{all_there}
-use Rattle.operation_rules.specs.Faults.{Fault, Ruling, NoPlace, or_fault}
+use Rattle.operation_rules.specs.Faults.{Ruling, NoPlace, or_fault}
 use Rattle.operation_rules.specs.Named.{IsNamed, PlaceBelow}
 use Rattle.operation_rules.specs.Operations.{Operation}
 use Rattle.operation_rules.specs.Rules.{Setting, Rule, rule}

@@ -5,7 +5,7 @@ use Rattle.index_sorts.specs.declared.error.ContextError.TheVariants as context_
 use Rattle.state_types.specs.Answers.{◌>>=◌}
 use Rattle.state_types.specs.declared.error.StateError.{StateError}
 use Rattle.state_types.specs.declared.error.StateError.TheVariants as state_error
-use Rattle.operation_rules.specs.Faults.{Fault, Ruling, WrongKind, Large, Full}
+use Rattle.operation_rules.specs.Faults.{Ruling, WrongKind, Large, Full}
 use Rattle.operation_rules.specs.declared.error.RuleError.{RuleError}
 use Rattle.operation_rules.specs.declared.error.RuleError.TheVariants as rule_error
 

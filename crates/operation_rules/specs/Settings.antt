@@ -1,5 +1,5 @@
 -- Settings as the code has them.
-use Rattle.std.specs.Prelude.{ℕ, ◌≤◌, List}
+use Rattle.std.specs.Prelude.{◌≤◌}
 use Rattle.std.specs.List.{All}
 use Rattle.state_types.specs.declared.closed.Signature.{Signature}
 use Rattle.operation_rules.specs.Rules.{Setting}

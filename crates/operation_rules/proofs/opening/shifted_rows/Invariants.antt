@@ -1,6 +1,4 @@
-use Rattle.std.proofs.Common.{◌≡◌, take, map, List, Result, Ok}
-use Rattle.xan_lin.specs.Linear.{Linear}
-use Rattle.xan_lin.specs.declared.term.TooLarge.{TooLarge}
+use Rattle.std.proofs.Common.{◌≡◌, take, map, Ok}
 use Rattle.state_types.specs.Unpacking.{shifted}
 use Rattle.operation_rules.proofs.opening.shifted_rows.Given as goal
 
