@@ -21,6 +21,7 @@ use Rattle.state_types.specs.declared.matching.Found.{Found}
 use Rattle.state_types.specs.declared.types.Ty.{Ty}
 use Rattle.state_types.specs.declared.types.Ty.TheVariants as ty
 use Rattle.state_types.proofs.Pairing.{match_sound, words_carry}
+use Rattle.state_types.proofs.RowNames.{match-keys}
 use Rattle.state_types.proofs.Thens.{then_ok, ok_same}
 use Rattle.operation_rules.specs.Effects.{Stores, cells_from, index_within}
 use Rattle.operation_rules.specs.Faults.{Ruling, NoType, WrongCount, or_fault, of_match}
@@ -57,6 +58,11 @@ matching_is below vars rows wanted actual found e =
     let s = then_ok (as_many (length wanted) (length actual)) _ found e in
     record { many = as_many_is (length wanted) (length actual) s.value s.first; is = of_match_ok (matched below vars rows wanted actual) found s.second }
 
+-- it lists only variables of the target
+pub match_listed : (below vars : ℕ) (rows : List Linear) (wanted actual : List Ty) (found : Found) → matched below vars rows wanted actual ≡ Ok found
+    → All (λ v. v.0 < vars) found.values
+match_listed below vars rows wanted actual found e = match-keys below vars rows wanted actual found e
+
 -- under an assignment under which the demanded rows hold
 pub matching_sound : (below vars : ℕ) (rows : List Linear) (wanted actual : List Ty) (found : Found) (assignment : List ℤ) → matching below vars rows wanted actual ≡ Ok found
     → All (NamesBelow vars) rows → All (TypeBelow vars) wanted → AllHold assignment found.rows
@@ -78,6 +84,12 @@ item_closed : (table : List Packed) (number : ℕ) (packed : Packed) → All IsC
 item_closed [] number packed all e = absurd (let bad : ⊥ = cc in bad)
 item_closed (x ∷ xs) zero packed all e = subst (λ p. IsClosed p) (let same : x ≡ packed = cc in same) (All-head IsClosed x xs all)
 item_closed (x ∷ xs) (suc number) packed all e = item_closed xs number packed (All-tail IsClosed x xs all) e
+
+-- of few variables
+pub item_few : (table : List Packed) (number : ℕ) (packed : Packed) → All (λ p. p.vars ≤ 1024) table → slice_get table number ≡ Some packed → packed.vars ≤ 1024
+item_few [] number packed all e = absurd (let bad : ⊥ = cc in bad)
+item_few (x ∷ xs) zero packed all e = subst (λ p. p.vars ≤ 1024) (let same : x ≡ packed = cc in same) (All-head (λ p. p.vars ≤ 1024) x xs all)
+item_few (x ∷ xs) (suc number) packed all e = item_few xs number packed (All-tail (λ p. p.vars ≤ 1024) x xs all) e
 
 only_by : (test : Truth) (packed given : Packed) → cond test (let r : Ruling Packed = Ok packed in r) (Err NoType) ≡ Ok given → packed ≡ given
 only_by true packed given e = ok_same packed given e

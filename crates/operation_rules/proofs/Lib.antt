@@ -14,3 +14,9 @@ pub mod OperationsFare
 pub mod RuleExamples
 pub mod FlatWalks
 pub mod FlatStores
+pub mod FormsMade
+pub mod CallsMade
+pub mod SidesMade
+pub mod TypesGiven
+pub mod RowsNamed
+pub mod PlacesRead

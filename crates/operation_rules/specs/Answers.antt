@@ -2,9 +2,10 @@
 use Rattle.std.specs.Prelude.{◌≡◌, Result, Ok, Err}
 use Rattle.index_sorts.specs.declared.error.ContextError.{ContextError}
 use Rattle.index_sorts.specs.declared.error.ContextError.TheVariants as context_error
+use Rattle.state_types.specs.Answers.{◌>>=◌}
 use Rattle.state_types.specs.declared.error.StateError.{StateError}
 use Rattle.state_types.specs.declared.error.StateError.TheVariants as state_error
-use Rattle.operation_rules.specs.Faults.{Fault, Ruling, WrongKind, Large, Full}
+use Rattle.operation_rules.specs.Faults.{Ruling, WrongKind, Large, Full}
 use Rattle.operation_rules.specs.declared.error.RuleError.{RuleError}
 use Rattle.operation_rules.specs.declared.error.RuleError.TheVariants as rule_error
 
@@ -16,6 +17,10 @@ Fails rule_error.Memory wanted = Unit {0}
 abbrev pub Gives : {X Y : Type 0} → (X → Y) → Result X RuleError → Ruling Y → Type 0
 Gives view (Ok x) wanted = wanted ≡ Ok (view x)
 Gives view (Err error) wanted = Fails error wanted
+
+-- one part and then the next, under a name that clauses can use
+abbrev pub and_then : {A B E : Type 0} → Result A E → (A → Result B E) → Result B E
+and_then first next = first >>= next
 
 -- ---- the errors of calls
 

@@ -5,6 +5,8 @@ pub mod Faults
 pub mod Answers
 pub mod Forms
 pub mod Rules
+pub mod Settings
+pub mod Named
 pub mod Applied
 pub mod Sides
 pub mod Entry

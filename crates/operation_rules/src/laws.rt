@@ -1,12 +1,14 @@
 //! Typed operations go well.
 
-ghost use Rattle.std.specs.Prelude.{◌≡◌, ◌≤◌, ℤ, List, Ok};
+ghost use Rattle.std.specs.Prelude.{◌≡◌, ◌≤◌, ◌+◌, ℕ, ℤ, List, Ok, All};
 ghost use Rattle.index_sorts.specs.Context.{IndexContext};
 ghost use Rattle.index_sorts.specs.Entails.{AllHold};
+ghost use Rattle.state_types.specs.Types.{TypeBelow};
 ghost use Rattle.state_types.specs.declared.types.Ty.{Ty};
 ghost use Rattle.operation_rules.specs.Applied.{Ruled, applied};
 ghost use Rattle.operation_rules.specs.Effects.{Stores, effect};
 ghost use Rattle.operation_rules.specs.FlatWords.{flat_words};
+ghost use Rattle.operation_rules.specs.Named.{IsNamed};
 ghost use Rattle.operation_rules.specs.Operations.{Operation};
 ghost use Rattle.operation_rules.specs.Rules.{Setting, Rule, rule};
 ghost use Rattle.operation_rules.specs.Sound.{IsSetting, Stands, Fares};
@@ -25,4 +27,11 @@ pub fn operations_are_sound<S>()
 /// Flat words are a kind of store: a written cell changes no header and no other cell, and a block that is appended changes nothing else.
 pub fn flat_words_are_stores()
     ensures { IsStores flat_words }
+{}
+
+/// The rows that a rule takes to hold name only variables of the context with the fresh ones, where the types that are read name variables of
+/// the context.
+pub fn assumed_rows_are_named()
+    ensures { (st : Setting) (op : Operation) (types : List Ty) (first : ℕ) (r : Rule) → IsSetting st → rule st op types first ≡ Ok r
+        → All (TypeBelow first) types → All (IsNamed (first + r.fresh)) r.assumed }
 {}

@@ -21,8 +21,8 @@ pub struct Rule {
     pub given: Seq<Result<Ty, TooLarge>>,
 }
 
-// The list of one.
-fn single<T: Drop>(alloc: Global, element: T) -> Result<Vec<T>, Memory>
+/// The list of one.
+pub(crate) fn single<T: Drop>(alloc: Global, element: T) -> Result<Vec<T>, Memory>
     ensures { IfOk result (λ made. made.items ≡ element ∷ []) }
 {
     let mut made = Vec::new(alloc);

@@ -6,3 +6,4 @@ pub mod LowRuns
 pub mod EachInstruction
 pub mod LowLiveness
 pub mod LowTyping
+pub mod LowIdentity

@@ -12,3 +12,7 @@ pub mod FitStatements
 pub mod FitPrograms
 mod RunSources
 mod RunExamples
+mod AlikeAnswers
+mod AlikeOperands
+mod AlikeStatements
+mod AlikeCalls

@@ -59,6 +59,10 @@ module _ {L : Type 0} where
 
   -- ---- control
 
+  -- a statement is reached, and recorded
+  abbrev pub reached : Recorder L → (fun : ℕ) → Place → Env → Run L → Run L
+  reached recorder fun place env st = record st { log = recorder fun place env st.store st.log }
+
   -- what stands behind goes on where the statement completed
   abbrev pub behind : Flow → (Env → Run L → Answer L Flow) → Run L → Answer L Flow
   behind (Next env) more st = more env st
@@ -84,10 +88,6 @@ module _ {L : Type 0} where
     turned truth (body bound) (turns test body bound) env one
 
 module _ {L : Type 0} (recorder : Recorder L) (call : Calls L) (fun : ℕ) where
-  -- it is recorded
-  abbrev pub reached : Place → Env → Run L → Run L
-  reached place env st = record st { log = recorder fun place env st.store st.log }
-
   unfoldable mutual
     -- the bound is that on the turns of loops
     pub statement : (bound : ℕ) → Place → core.Stmt → Env → Run L → Answer L Flow
@@ -127,5 +127,5 @@ module _ {L : Type 0} (recorder : Recorder L) (call : Calls L) (fun : ℕ) where
     pub block : (bound : ℕ) → Place → (number : ℕ) → core.Stmts → Env → Run L → Answer L Flow
     block bound place number core.NoStmt env st = completes env st
     block bound place number (core.AStmt s ss) env st = do
-      (flow, one) ← statement bound (number ∷ place) s env (reached (number ∷ place) env st)
+      (flow, one) ← statement bound (number ∷ place) s env (reached recorder fun (number ∷ place) env st)
       behind flow (λ env st. block bound place (suc number) ss env st) one

@@ -3,8 +3,7 @@
 //!
 //! The definition of the goals of a core stands in `specs/`. [`Elaborated`] keeps that its parts are those of the definition, and
 //! [`Proved`] that each of its lists of lines proves the goal of its place. The meaning of a core stands there too, on `operation_rules`.
-//! The crate stands on `xanadu_tree` for cores, on `state_types` for
-//! types and what matches demand, and on `proof_lines` for lines.
+//! The crate stands on `xanadu_tree` for cores, on `state_types` for types and what matches demand, and on `proof_lines` for lines.
 #![tactic(auto)]
 
 mod elaborated;
@@ -15,6 +14,6 @@ mod proved;
 
 pub use crate::elaborated::Elaborated;
 pub use crate::goal::GoalAt;
-pub use crate::laws::shaped_cores_fit;
+pub use crate::laws::{more_bound_changes_nothing, shaped_cores_fit};
 pub use crate::note::Note;
 pub use crate::proved::Proved;
