@@ -4,9 +4,12 @@ ghost use Rattle.std.specs.Prelude.{◌≡◌, map};
 ghost use Rattle.std.specs.Option.{option_map};
 ghost use Rattle.xanadu_tree.specs.PlainTreeOf.{plain_index, plain_relation, plain_quantifier};
 ghost use Rattle.xanadu_tree.specs.Written.{index_term_at};
+ghost use Rattle.xanadu_tree.specs.PlainTree as plain;
+ghost use Rattle.xanadu_tree.specs.declared.tree.index.Binder.{Binder as TheBinder};
 ghost use Rattle.xanadu_parser.specs.Code.{Reads};
 ghost use Rattle.xanadu_parser.specs.Index as spec;
 
+use crate::lists::{Item, separated};
 use crate::operators::{eat_index_relation, eat_sign};
 use crate::stop::Stop;
 use crate::tokens::Tokens;
@@ -107,20 +110,24 @@ fn relation(alloc: Global, tokens: &mut Tokens<'_>) -> Result<Relation, Stop>
     })
 }
 
+impl Item for Relation {
+    ghost Plain = { plain.Relation };
+
+    ghost view = { plain_relation };
+
+    ghost reader = { spec.relation };
+
+    fn read(alloc: Global, tokens: &mut Tokens<'_>) -> Result<Relation, Stop> {
+        relation(alloc, tokens)
+    }
+}
+
 /// Relations with commas between them, at least one.
 #[tactic(auto, unfolding(crate::specs::Index::relations))]
 fn relations(alloc: Global, tokens: &mut Tokens<'_>) -> Result<Vec<Relation>, Stop>
     ensures { Reads (λ x. map plain_relation x.items) result tokens.new (spec.relations tokens.old) }
 {
-    let mut found = Vec::new(alloc);
-    found.push(relation(alloc, tokens)?)?;
-    for _turn in 0..tokens.left() {
-        let Some(_) = tokens.eat_symbol(Symbol::Comma) else {
-            return Ok(found);
-        };
-        found.push(relation(alloc, tokens)?)?;
-    }
-    Ok(found)
+    separated(alloc, tokens)
 }
 
 /// What is assumed of a quantifier's variables, behind a `|`, or nothing.
@@ -157,20 +164,24 @@ fn binder(tokens: &mut Tokens<'_>) -> Result<Binder, Stop>
     Ok(Binder { name, sort })
 }
 
+impl Item for Binder {
+    ghost Plain = { TheBinder };
+
+    ghost view = { λ x. x };
+
+    ghost reader = { spec.binder };
+
+    fn read(_alloc: Global, tokens: &mut Tokens<'_>) -> Result<Binder, Stop> {
+        binder(tokens)
+    }
+}
+
 /// Binders with commas between them, at least one.
 #[tactic(auto, unfolding(crate::specs::Index::binders))]
 fn binders(alloc: Global, tokens: &mut Tokens<'_>) -> Result<Vec<Binder>, Stop>
     ensures { Reads (λ x. x.items) result tokens.new (spec.binders tokens.old) }
 {
-    let mut found = Vec::new(alloc);
-    found.push(binder(tokens)?)?;
-    for _turn in 0..tokens.left() {
-        let Some(_) = tokens.eat_symbol(Symbol::Comma) else {
-            return Ok(found);
-        };
-        found.push(binder(tokens)?)?;
-    }
-    Ok(found)
+    separated(alloc, tokens)
 }
 
 /// What is behind the `{` of a quantifier, which stands at this offset.

@@ -9,6 +9,7 @@ mod error;
 mod expressions;
 mod index;
 mod laws;
+mod lists;
 mod nesting;
 mod operators;
 mod parser;

@@ -7,6 +7,7 @@ ghost use Rattle.xanadu_parser.specs.Code.{Reads};
 ghost use Rattle.xanadu_parser.specs.Statements as spec;
 
 use crate::expressions::{arguments, expression, indices};
+use crate::lists::separated;
 use crate::stop::Stop;
 use crate::tokens::Tokens;
 use crate::types::clause_behind;
@@ -55,15 +56,7 @@ fn declared(alloc: Global, tokens: &mut Tokens<'_>, room: usize, at: u32) -> Res
 fn names(alloc: Global, tokens: &mut Tokens<'_>) -> Result<Vec<Identifier>, Stop>
     ensures { Reads (λ x. x.items) result tokens.new (spec.names tokens.old) }
 {
-    let mut found = Vec::new(alloc);
-    found.push(tokens.lower()?)?;
-    for _turn in 0..tokens.left() {
-        let Some(_) = tokens.eat_symbol(Symbol::Comma) else {
-            return Ok(found);
-        };
-        found.push(tokens.lower()?)?;
-    }
-    Ok(found)
+    separated(alloc, tokens)
 }
 
 /// What is behind `let`.

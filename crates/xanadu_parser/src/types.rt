@@ -4,10 +4,12 @@ ghost use Rattle.std.specs.Prelude.{◌≡◌, map};
 ghost use Rattle.std.specs.Option.{option_map};
 ghost use Rattle.xanadu_tree.specs.PlainTreeOf.{plain_index, plain_type, plain_parameter, plain_clause};
 ghost use Rattle.xanadu_tree.specs.Written.{type_at, element_at};
+ghost use Rattle.xanadu_tree.specs.PlainTree as plain;
 ghost use Rattle.xanadu_parser.specs.Code.{Reads};
 ghost use Rattle.xanadu_parser.specs.Types as spec;
 
 use crate::index::{index_expression, quantified};
+use crate::lists::{Item, separated};
 use crate::stop::Stop;
 use crate::tokens::Tokens;
 use std::alloc::Global;
@@ -96,20 +98,24 @@ pub fn type_at(ty: &Type) -> u32
     }
 }
 
+impl Item for Type {
+    ghost Plain = { plain.WrittenType };
+
+    ghost view = { plain_type };
+
+    ghost reader = { spec.written_type };
+
+    fn read(alloc: Global, tokens: &mut Tokens<'_>) -> Result<Type, Stop> {
+        written_type(alloc, tokens)
+    }
+}
+
 /// Types with commas between them, at least one.
 #[tactic(auto, unfolding(crate::specs::Types::types))]
 pub fn types(alloc: Global, tokens: &mut Tokens<'_>) -> Result<Vec<Type>, Stop>
     ensures { Reads (λ x. map plain_type x.items) result tokens.new (spec.types tokens.old) }
 {
-    let mut found = Vec::new(alloc);
-    found.push(written_type(alloc, tokens)?)?;
-    for _turn in 0..tokens.left() {
-        let Some(_) = tokens.eat_symbol(Symbol::Comma) else {
-            return Ok(found);
-        };
-        found.push(written_type(alloc, tokens)?)?;
-    }
-    Ok(found)
+    separated(alloc, tokens)
 }
 
 /// A variable, `:` and its type.
@@ -133,20 +139,24 @@ fn some_parameters(alloc: Global, tokens: &mut Tokens<'_>) -> Result<Vec<Paramet
     Ok(found)
 }
 
+impl Item for Parameter {
+    ghost Plain = { plain.Parameter };
+
+    ghost view = { plain_parameter };
+
+    ghost reader = { spec.parameter };
+
+    fn read(alloc: Global, tokens: &mut Tokens<'_>) -> Result<Parameter, Stop> {
+        parameter(alloc, tokens)
+    }
+}
+
 /// Parameters with commas between them, at least one.
 #[tactic(auto, unfolding(crate::specs::Types::listed_parameters))]
 fn listed_parameters(alloc: Global, tokens: &mut Tokens<'_>) -> Result<Vec<Parameter>, Stop>
     ensures { Reads (λ x. map plain_parameter x.items) result tokens.new (spec.listed_parameters tokens.old) }
 {
-    let mut found = Vec::new(alloc);
-    found.push(parameter(alloc, tokens)?)?;
-    for _turn in 0..tokens.left() {
-        let Some(_) = tokens.eat_symbol(Symbol::Comma) else {
-            return Ok(found);
-        };
-        found.push(parameter(alloc, tokens)?)?;
-    }
-    Ok(found)
+    separated(alloc, tokens)
 }
 
 /// Parameters in parentheses, or `()`.
