@@ -3,15 +3,22 @@ use Rattle.std.proofs.Common.{◌≡◌, ℕ, ℤ, pos, negsuc, List, [], ◌∷
 use Rattle.xan_lin.specs.declared.term.Term.{Term}
 use Rattle.typed_core.specs.Goals.{elaborated, functions, function, body_start, Elaboration}
 use Rattle.typed_core.specs.Headers.{few_declarations, few_parts, few_parameters, closed_type, closed_types, signature, signatures}
-use Rattle.typed_core.specs.Forms.{type_of, forms_from, types_from, renamed, renamed_type, variables_from}
+use Rattle.typed_core.specs.Forms.{type_of, forms_from, types_from, renamed, renamed_type}
+use Rattle.typed_core.specs.Strays.{terms_rise, values_rise}
+use Rattle.typed_core.specs.Constructs.{types_by, type_by, state_by, followed}
+use Rattle.operation_rules.specs.Applied.{widened, all_assuming}
+use Rattle.operation_rules.specs.Applied as applying
+use Rattle.operation_rules.specs.Forms.{variables_from}
+use Rattle.operation_rules.specs.Rules.{rule, two_numbers, quotient, remainder, measured, loaded, stored, allocated, constructed, called, returned, tuple_at, cell_at, of_kinds}
+use Rattle.operation_rules.specs.Rules as rules
 use Rattle.typed_core.specs.Places.{named_by, named_by_operands, named_by_links, test_named, tests_named, statement_named, statements_named, places_of}
-use Rattle.typed_core.specs.Statements.{statement, block, assigned, split, stored, store, done, printed, matched_result, returning, all_given, meeting, after_branches}
-use Rattle.typed_core.specs.Operands.{operand, operands, chained, product, divisor, quotient, remainder, arithmetic, bounds, indexed, measured, allocated, constructed, returned, called, negated}
-use Rattle.typed_core.specs.Tests.{compared, truth_leaf, leaf, tested, all_true, all_false}
-use Rattle.typed_core.specs.Joins.{changes, changes_any, renewed, stated_types, with_types, leading, first_past, joined, present, index_at, values_at, entered, entered_if, still_visible}
-use Rattle.typed_core.specs.States.{with_fresh, all_assumed, assuming, number, all_asked, demanding, noting_state, given, tuple_at, cell_at, opened, matching}
+use Rattle.typed_core.specs.Statements.{statement, block, assigned, split, store, done, printed, returning, all_given, meeting, after_branches}
+use Rattle.typed_core.specs.Operands.{operand, operands, chained}
+use Rattle.typed_core.specs.Tests.{branched, truth_leaf, leaf, tested, all_true, all_false}
+use Rattle.typed_core.specs.Joins.{changes, changes_any, renewed, few_places, renewing, stating, stated_types, with_types, leading, first_past, joined, present, index_at, values_at, met_there, entered, entered_if, still_visible}
+use Rattle.typed_core.specs.States.{with_fresh, assuming, all_asked, demanding, noting_state, given, matching}
 use Rattle.index_sorts.specs.Known.{knows, with_row}
-use Rattle.state_types.specs.Unpacking.{with_rows, unpacked}
+use Rattle.state_types.specs.Unpacking.{with_rows}
 use Rattle.state_types.specs.Types.{subst_ty}
 use Rattle.state_types.specs.Matching.{matched, found_with, pairs_of, pair_of, values_for, value_for, demanded, type_rows, index_rows, differences, own_rows}
 use Rattle.xan_lin.specs.Linear.{Linear, variable_form, sized, excess_of}
@@ -74,9 +81,9 @@ in_loop = (0, ty.Array 0 (v 0)) ∷ (1, ty.Int (v 1)) ∷ (2, ty.Int (v 2)) ∷ 
 abbrev NotesOfSum : Type 0
 NotesOfSum = notes_of (elaborated source.sum_of_cells) ≡ Ok (
     state 3 (v 0 ∷ v 1 ∷ rest ∷ []) in_loop
-    ∷ note.Edge ((1, zero_form) ∷ (2, zero_form) ∷ []) []
+    ∷ note.Edge ((1, zero_form) ∷ (2, zero_form) ∷ []) (ty.Int zero_form ∷ []) []
     ∷ note.Demand []
-    ∷ note.Edge ((1, row ((pos 1, 1) ∷ []) (pos 1)) ∷ (2, row ((pos 1, 2) ∷ (pos 1, 3) ∷ []) (pos 0)) ∷ []) (0 ∷ [])
+    ∷ note.Edge ((1, row ((pos 1, 1) ∷ []) (pos 1)) ∷ (2, row ((pos 1, 2) ∷ (pos 1, 3) ∷ []) (pos 0)) ∷ []) (ty.Int (row ((pos 1, 1) ∷ []) (pos 1)) ∷ []) (0 ∷ [])
     ∷ state 4 (v 0 ∷ v 1 ∷ rest ∷ row ((negsuc 0, 0) ∷ (pos 1, 1) ∷ []) (pos 0) ∷ []) in_loop
     ∷ note.Demand []
     ∷ [])
@@ -105,13 +112,13 @@ OfPairs = goals_of (elaborated source.pairs) ≡ Ok []
 abbrev OfInnerClause : Type 0
 OfInnerClause = notes_of (elaborated source.inner_clause) ≡ Ok (
     state 2 (v 0 ∷ row ((negsuc 0, 0) ∷ []) (pos 2) ∷ v 1 ∷ []) ((0, ty.Array 0 (v 1)) ∷ [])
-    ∷ note.Edge ((1, v 0) ∷ []) []
-    ∷ note.Edge ((1, v 1) ∷ []) []
+    ∷ note.Edge ((1, v 0) ∷ []) (ty.Array 0 (v 0) ∷ []) []
+    ∷ note.Edge ((1, v 1) ∷ []) (ty.Array 0 (v 1) ∷ []) []
     ∷ state 2 (v 0 ∷ row ((negsuc 0, 0) ∷ []) (pos 2) ∷ v 1 ∷ []) ((0, ty.Array 0 (v 1)) ∷ [])
     ∷ state 2 (v 0 ∷ row ((pos 1, 0) ∷ []) (negsuc 2) ∷ []) ((0, ty.Array 0 (v 0)) ∷ [])
     ∷ state 3 (v 0 ∷ []) ((0, ty.Array 0 (v 2)) ∷ [])
-    ∷ note.Edge ((2, v 1) ∷ []) []
-    ∷ note.Edge ((2, v 0) ∷ []) []
+    ∷ note.Edge ((2, v 1) ∷ []) [] []
+    ∷ note.Edge ((2, v 0) ∷ []) [] []
     ∷ note.Demand []
     ∷ [])
 
@@ -180,15 +187,15 @@ OfReturn = IsBefore source.divided 0 (core.Return (Some (source.two op.Div (core
 -- ---- they hold, by computation
 
 small_sources : OfSum × NotesOfSum × OfOneTooFar × OfNotStated × OfDivided × OfPairs × OfInnerClause × OfStores × OfCalls × OfBranchAssigns × OfEither × OfSearch × OfBoth × OfLargeRow × OfManyIndices × OfMany × OfPlaces
-unfolding elaborated functions function body_start few_declarations few_parts few_parameters closed_type closed_types signature signatures type_of forms_from types_from named_by named_by_operands named_by_links test_named tests_named statement_named statements_named statement block assigned split stored store done printed matched_result returning all_given meeting after_branches operand operands chained product divisor quotient remainder arithmetic bounds indexed measured allocated constructed returned called negated compared truth_leaf leaf tested all_true all_false changes changes_any renewed stated_types with_types leading first_past joined present index_at values_at entered entered_if still_visible with_fresh all_assumed assuming number all_asked demanding noting_state given tuple_at cell_at opened matching excess_of renamed renamed_type variables_from knows with_row with_rows unpacked subst_ty matched found_with pairs_of pair_of values_for value_for demanded type_rows index_rows differences own_rows sized replacement replaced_terms replaced_constant sum_terms plus_term scaled_terms
+unfolding elaborated functions function body_start few_declarations few_parts few_parameters closed_type closed_types signature signatures type_of forms_from types_from named_by named_by_operands named_by_links test_named tests_named statement_named statements_named statement block assigned split store done printed returning all_given meeting after_branches operand operands chained types_by type_by state_by followed widened all_assuming applying.all_given rule two_numbers quotient remainder measured loaded stored allocated constructed rules.split called returned rules.matching tuple_at cell_at of_kinds branched truth_leaf leaf tested all_true all_false changes changes_any renewed few_places renewing stating stated_types with_types leading first_past joined present index_at values_at met_there entered entered_if still_visible with_fresh assuming all_asked demanding noting_state given matching terms_rise values_rise excess_of renamed renamed_type variables_from knows with_row with_rows subst_ty matched found_with pairs_of pair_of values_for value_for demanded type_rows index_rows differences own_rows sized replacement replaced_terms replaced_constant sum_terms plus_term scaled_terms
 small_sources = (refl, refl, refl, refl, refl, refl, refl, refl, refl, refl, refl, refl, refl, refl, refl, refl, (refl, refl))
 
 long_source : OfSquares
-unfolding elaborated functions function body_start few_declarations few_parts few_parameters closed_type closed_types signature signatures type_of forms_from types_from named_by named_by_operands named_by_links test_named tests_named statement_named statements_named statement block assigned split stored store done printed matched_result returning all_given meeting after_branches operand operands chained product divisor quotient remainder arithmetic bounds indexed measured allocated constructed returned called negated compared truth_leaf leaf tested all_true all_false changes changes_any renewed stated_types with_types leading first_past joined present index_at values_at entered entered_if still_visible with_fresh all_assumed assuming number all_asked demanding noting_state given tuple_at cell_at opened matching excess_of renamed renamed_type variables_from knows with_row with_rows unpacked subst_ty matched found_with pairs_of pair_of values_for value_for demanded type_rows index_rows differences own_rows sized replacement replaced_terms replaced_constant sum_terms plus_term scaled_terms
+unfolding elaborated functions function body_start few_declarations few_parts few_parameters closed_type closed_types signature signatures type_of forms_from types_from named_by named_by_operands named_by_links test_named tests_named statement_named statements_named statement block assigned split store done printed returning all_given meeting after_branches operand operands chained types_by type_by state_by followed widened all_assuming applying.all_given rule two_numbers quotient remainder measured loaded stored allocated constructed rules.split called returned rules.matching tuple_at cell_at of_kinds branched truth_leaf leaf tested all_true all_false changes changes_any renewed few_places renewing stating stated_types with_types leading first_past joined present index_at values_at met_there entered entered_if still_visible with_fresh assuming all_asked demanding noting_state given matching terms_rise values_rise excess_of renamed renamed_type variables_from knows with_row with_rows subst_ty matched found_with pairs_of pair_of values_for value_for demanded type_rows index_rows differences own_rows sized replacement replaced_terms replaced_constant sum_terms plus_term scaled_terms
 long_source = (refl, refl)
 
 before_return : OfReturn
-unfolding body_start with_rows closed_types signatures signature type_of forms_from types_from sized StandsIn
+unfolding body_start with_rows closed_types signatures signature type_of forms_from types_from terms_rise sized StandsIn
 before_return = record {
   table = _;
   sigs = _;

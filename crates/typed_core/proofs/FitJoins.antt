@@ -2,11 +2,13 @@
 use Rattle.std.proofs.Common.{◌≡◌, ℕ, suc, ◌+◌, List, [], ◌∷◌, ◌++◌, map, length, Bool as Truth, true, false, Option, Some, None, refl, sym, ap, subst, ◌∙◌, append_assoc}
 use Rattle.std.specs.Prelude.{slice_get}
 use Rattle.std.proofs.lemmas.List.{append-nil}
-use Rattle.std.specs.List.{AllByRecursion}
+use Rattle.std.specs.List.{AllByRecursion, list_all}
 use Rattle.xan_lin.specs.Linear.{Linear}
+use Rattle.xan_lin.specs.declared.term.LimitKind.TheVariants as limit
 use Rattle.xan_lin.specs.declared.term.TooLarge.{TooLarge}
 use Rattle.state_types.specs.PlaceTypes.{type_at}
 use Rattle.state_types.specs.Types.{index_of}
+use Rattle.state_types.specs.declared.state.StateType.{StateType}
 use Rattle.state_types.specs.declared.types.Ty.{Ty}
 use Rattle.state_types.specs.declared.types.Ty.TheVariants as ty
 use Rattle.xanadu_tree.specs.declared.stmt.Clause.{Clause}
@@ -15,14 +17,16 @@ use Rattle.xanadu_tree.specs.declared.types.Kind.{Kind}
 use Rattle.xanadu_tree.specs.BodyRules.{Point, IsStated, IsClauseIfAny}
 use Rattle.xanadu_tree.specs.IndexRules.{stretch_of}
 use Rattle.xanadu_tree.specs.KindRules.{kind_of, Setting, IsAmong}
-use Rattle.typed_core.specs.Forms.{renamed, renamed_type, variables_from}
-use Rattle.typed_core.specs.Joins.{stated, renewed, stated_types, Joint, joined, present, within_bounds, index_at, values_at, entered, entered_if}
-use Rattle.typed_core.specs.Limits.{needed}
+use Rattle.operation_rules.specs.Forms.{variables_from}
+use Rattle.typed_core.specs.Forms.{renamed, renamed_type}
+use Rattle.typed_core.specs.Joins.{stated, few_places, renewed, renewing, naming_more, stating, stated_types, Joint, joined, present, within_bounds, index_at, values_at, met_there, entered, entered_if}
+use Rattle.typed_core.specs.Limits.{needed, within, held}
 use Rattle.typed_core.specs.States.{Site, State, resuming, with_fresh, assuming, noting_state, there, matching}
-use Rattle.typed_core.proofs.Fitting.{Anything, Fits, then_answers, weaker, needed_fits, there_fits}
+use Rattle.typed_core.specs.Strays.{clause_rises, values_rise, row_below}
+use Rattle.typed_core.proofs.Fitting.{Anything, Fits, then_answers, weaker, needed_fits, there_fits, within_fits, held_fits}
 use Rattle.typed_core.proofs.TypeKinds.{ty_kind, some_kind, HaveKindsOf, AreOfKinds, are_with, renamed_kind}
 use Rattle.typed_core.proofs.FitMatches.{matching_fits}
-use Rattle.typed_core.proofs.KnownTypes.{IsEntry, Knows, AreWithin, present_of, all_weaker, all_behind, HasIndex, IsIndexed, renews, knows_types}
+use Rattle.typed_core.proofs.KnownTypes.{IsEntry, Knows, AreWithin, present_of, all_weaker, all_behind, HasIndex, IsIndexed, Renews, renews, knows_types}
 use Rattle.typed_core.proofs.FitStates.{with_fresh_fits, assuming_fits}
 
 -- ---- clauses
@@ -46,9 +50,10 @@ stated_fits : (kinds : List Kind) (visible : List ℕ) (naming : List (ℕ × Li
 unfolding stated_types
 stated_fits kinds visible naming own [] made all done = record { is = done }
 stated_fits kinds visible naming own (s ∷ ss) made all done =
-    then_answers (needed (renamed_type naming own s.1)) _ (needed_fits (renamed_type naming own s.1) (renamed_kind naming own s.1))
+    then_answers (within limit.Places (suc s.0)) _ (within_fits limit.Places (suc s.0))
+    (λ few u. then_answers (needed (renamed_type naming own s.1)) _ (needed_fits (renamed_type naming own s.1) (renamed_kind naming own s.1))
     (λ it e. stated_fits kinds visible naming own ss (made ++ (s.0, it) ∷ []) all.1
-    (all_behind (IsEntry kinds visible) made (s.0, it) done (all.0.0, all.0.1 ∙ some_kind e)))
+    (all_behind (IsEntry kinds visible) made (s.0, it) done (all.0.0, all.0.1 ∙ some_kind e))))
 
 -- ---- the state
 
@@ -59,24 +64,43 @@ pub record IsJoint (kinds : List Kind) (visible : List ℕ) (joint : Joint) : Ty
 abbrev pub Joins : List Kind → (visible : List ℕ) → Joint × State → Type 0
 Joins kinds visible r = IsJoint kinds visible r.0 × Knows kinds visible r.1.types
 
-pub joined_fits : (kinds : List Kind) (visible : List ℕ) (site : Site) (clause : Clause) (changed : ℕ → Truth) (before latest : State)
-    → AllByRecursion (IsStatedOf kinds visible) clause.vars → Knows kinds visible before.types → Fits (Joins kinds visible) (joined site clause changed before latest)
+few_places_fit : (entries : List (ℕ × Ty)) → Fits Anything (few_places entries)
+unfolding few_places
+few_places_fit [] = record { is = tt }
+few_places_fit (e ∷ es) = then_answers (within limit.Places (suc e.0)) _ (within_fits limit.Places (suc e.0)) (λ few u. few_places_fit es)
+
+renewing_fits : (kinds : List Kind) (visible : List ℕ) (clause : Clause) (changed : ℕ → Truth) (before : StateType) (latest : State) → Knows kinds visible before.places
+    → Fits (λ r. Renews kinds visible (IsAmong visible) r.0) (renewing clause changed before latest)
+unfolding renewing
+renewing_fits kinds visible clause changed before latest knows =
+    let from = latest.ctx.vars + clause.quant.count in
+    let kept = renewed changed clause.vars from before.places (record { types = []; others = [] }) in
+    let start = resuming before.ctx.rows before.places latest in
+    then_answers (few_places before.places) _ (few_places_fit before.places)
+    (λ few u. then_answers (with_fresh (clause.quant.count + length kept.others) start) _ (with_fresh_fits Anything (clause.quant.count + length kept.others) start tt)
+    (λ fresh v. record { is = renews kinds visible changed clause.vars from before.places knows }))
+
+stating_fits : (naming : List (ℕ × Linear)) (own : ℕ) (clause : Clause) (st : State) → Fits Anything (stating naming own clause st)
+unfolding stating
+stating_fits naming own clause st =
+    let rows = map (renamed naming own) clause.quant.rows in
+    then_answers (held (values_rise 0 naming)) _ (held_fits (values_rise 0 naming))
+    (λ a b. then_answers (held (clause_rises clause)) _ (held_fits (clause_rises clause))
+    (λ c d. then_answers (held (list_all (row_below st.ctx.vars) rows)) _ (held_fits (list_all (row_below st.ctx.vars) rows))
+    (λ e f. then_answers (assuming rows st) _ (assuming_fits Anything rows st tt) (λ known u. record { is = tt }))))
+
+pub joined_fits : (kinds : List Kind) (visible : List ℕ) (site : Site) (clause : Clause) (changed : ℕ → Truth) (before : StateType) (latest : State)
+    → AllByRecursion (IsStatedOf kinds visible) clause.vars → Knows kinds visible before.places → Fits (Joins kinds visible) (joined site clause changed before latest)
 unfolding joined noting_state
 joined_fits kinds visible site clause changed before latest all knows =
-    let first = latest.ctx.vars in
-    let count = clause.quant.count in
-    let kept = renewed changed clause.vars (first + count) before.types (record { types = []; others = [] }) in
-    let naming = latest.naming ++ variables_from clause.first first count in
-    let start = resuming before.ctx.rows before.types latest in
-    let rows = map (renamed naming site.own.vars) clause.quant.rows in
-    let r = renews kinds visible changed clause.vars (first + count) before.types knows in
-    then_answers (with_fresh (count + length kept.others) start) _ (with_fresh_fits (λ ts. Unit {0}) (count + length kept.others) start tt)
-    (λ fresh u. then_answers (assuming rows fresh) _ (assuming_fits (λ ts. Unit {0}) rows fresh tt)
-    (λ known v. then_answers (stated_types naming site.own.vars clause.vars []) _ (stated_fits kinds visible naming site.own.vars clause.vars [] all tt)
+    then_answers (renewing clause changed before latest) _ (renewing_fits kinds visible clause changed before latest knows)
+    (λ k r. let begun = naming_more (variables_from clause.first latest.ctx.vars clause.quant.count) k.1 in
+    then_answers (stating begun.naming site.own.vars clause begun) _ (stating_fits begun.naming site.own.vars clause begun)
+    (λ s u. then_answers (stated_types s.1.naming site.own.vars clause.vars []) _ (stated_fits kinds visible s.1.naming site.own.vars clause.vars [] all tt)
     (λ wanted h. record {
       is = (
         record { wanted = h; others = r.indexed },
-        knows_types kinds visible wanted kept.types h (record { there = r.there; agree = r.agree }),
+        knows_types kinds visible wanted k.0.types h (record { there = r.there; agree = r.agree }),
       );
     })))
 
@@ -121,21 +145,27 @@ module _ (kinds : List Kind) (visible inner : List ℕ) (within : AreWithin visi
   values_fits types next (x ∷ xs) made knows all =
       then_answers (index_at types x) _ (index_at_fits types x knows all.0) (λ form u. values_fits types (suc next) xs (made ++ (next, form) ∷ []) knows all.1)
 
-  pub entered_fits : (K : List (ℕ × Ty) → Type 0) (site : Site) (at : ℕ) (joint : Joint) (from st : State) → IsJoint kinds visible joint → Knows kinds inner from.types
-      → K st.types → Fits (λ more. K more.types) (entered site at joint from st)
-  unfolding entered
-  entered_fits K site at joint from st is knows k =
+  met_there_fits : (joint : Joint) (types : List (ℕ × Ty)) → IsJoint kinds visible joint → Knows kinds inner types → Fits Anything (met_there joint types)
+  unfolding met_there
+  met_there_fits joint types is knows =
       let ks = map (λ w. ty_kind w.1) joint.wanted in
-      then_answers (present from.types joint.wanted []) _ (present_fits from.types joint.wanted [] [] knows is.wanted tt)
+      then_answers (present types joint.wanted []) _ (present_fits types joint.wanted [] [] knows is.wanted tt)
       (λ actual are. then_answers (matching joint.first (joint.first + joint.count) joint.rows (map (λ w. w.1) joint.wanted) actual) _
       (matching_fits ks joint.first (joint.first + joint.count) joint.rows (map (λ w. w.1) joint.wanted) actual (kinds_wanted joint.wanted) are)
-      (λ found u. then_answers (within_bounds joint.past) _ (bounded joint.past)
-      (λ limit v. then_answers (values_at from.types (joint.first + joint.count) joint.others found.values) _
-      (values_fits from.types (joint.first + joint.count) joint.others found.values knows is.others)
-      (λ values w. record { is = k }))))
+      (λ found u. record { is = tt }))
 
-  pub entered_if_fits : (K : List (ℕ × Ty) → Type 0) (completes : Truth) (site : Site) (at : ℕ) (joint : Joint) (from st : State) → IsJoint kinds visible joint
-      → Knows kinds inner from.types → K st.types → Fits (λ more. K more.types) (entered_if completes site at joint from st)
+  pub entered_fits : (K : List (ℕ × Ty) → Type 0) (site : Site) (at : ℕ) (joint : Joint) (from : StateType) (st : State) → IsJoint kinds visible joint
+      → Knows kinds inner from.places → K st.types → Fits (λ more. K more.types) (entered site at joint from st)
+  unfolding entered
+  entered_fits K site at joint from st is knows k =
+      then_answers (met_there joint from.places) _ (met_there_fits joint from.places is knows)
+      (λ m u. then_answers (within_bounds joint.past) _ (bounded joint.past)
+      (λ limit v. then_answers (values_at from.places (joint.first + joint.count) joint.others m.1.values) _
+      (values_fits from.places (joint.first + joint.count) joint.others m.1.values knows is.others)
+      (λ values w. record { is = k })))
+
+  pub entered_if_fits : (K : List (ℕ × Ty) → Type 0) (completes : Truth) (site : Site) (at : ℕ) (joint : Joint) (from : StateType) (st : State)
+      → IsJoint kinds visible joint → Knows kinds inner from.places → K st.types → Fits (λ more. K more.types) (entered_if completes site at joint from st)
   unfolding entered_if
   entered_if_fits K false site at joint from st is knows k = record { is = k }
   entered_if_fits K true site at joint from st is knows k = entered_fits K site at joint from st is knows k

@@ -7,12 +7,13 @@ use Rattle.xan_lin.specs.declared.term.TooLarge.{TooLarge}
 use Rattle.state_types.specs.Answers.{Check, within_bounds}
 use Rattle.state_types.specs.Matching.{pair_of, pairs_of, values_for, both_differences, differences, index_rows, type_rows, own_rows, demanded, found_with, matched}
 use Rattle.state_types.specs.Types.{index_of, same_kind}
-use Rattle.state_types.specs.declared.matching.Found.{Found}
 use Rattle.state_types.specs.declared.types.Ty.{Ty}
 use Rattle.xanadu_tree.specs.declared.types.Kind.{Kind}
-use Rattle.typed_core.specs.Limits.{Misfit, met}
+use Rattle.operation_rules.specs.Faults.{Ruling}
+use Rattle.operation_rules.specs.Rules as rules
+use Rattle.operation_rules.specs.declared.error.Fault.TheVariants.{WrongCount, WrongKind}
 use Rattle.typed_core.specs.States.{matching}
-use Rattle.typed_core.proofs.Fitting.{Answers, Anything, Fits, IsLarge, then_answers, met_fits}
+use Rattle.typed_core.proofs.Fitting.{Answers, Anything, Fits, Rules, IsLarge, then_answers, match_rules, by_rule_fits}
 use Rattle.typed_core.proofs.TypeKinds.{ty_kind, HaveKindsOf, AreOfKinds, wanted_kind, like_kinds, as_many}
 
 -- ---- rows
@@ -89,13 +90,37 @@ unfolding matched
 matched_large ks below vars rows wanted actual h g =
     then_answers (pairs_of 0 wanted actual []) _ (pairs_large ks 0 wanted actual [] h g) (λ pairs u. found_large (values_for below (vars - below) pairs) below pairs rows)
 
-matching_by : (b : Truth) (m : Check Found) → b ≡ true → Answers IsLarge Anything m → Fits Anything (cond b (met m) (Err Misfit))
-matching_by true m e h = met_fits m h
-matching_by false m e h = absurd (cc)
+as_many_by : (b : Truth) → b ≡ true → Rules Anything (let r : Ruling (Unit {0}) = cond b (Ok tt) (Err WrongCount) in r)
+as_many_by true e = record { is = tt }
+as_many_by false e = absurd (cc)
+
+pub as_many_rules : (wanted actual : ℕ) → wanted ≡ actual → Rules Anything (rules.as_many wanted actual)
+as_many_rules wanted actual e = as_many_by (wanted == actual) (eq-eqb wanted actual e)
+
+pub matching_rules : (ks : List Kind) (below vars : ℕ) (rows : List Linear) (wanted actual : List Ty) → HaveKindsOf ks wanted → AreOfKinds ks actual
+    → Rules Anything (rules.matching below vars rows wanted actual)
+unfolding rules.matching
+matching_rules ks below vars rows wanted actual h g =
+    then_answers (rules.as_many (length wanted) (length actual)) _ (as_many_rules (length wanted) (length actual) (as_many ks wanted actual h g))
+    (λ count u. match_rules (matched below vars rows wanted actual) (matched_large ks below vars rows wanted actual h g))
 
 pub matching_fits : (ks : List Kind) (below vars : ℕ) (rows : List Linear) (wanted actual : List Ty) → HaveKindsOf ks wanted → AreOfKinds ks actual
     → Fits Anything (matching below vars rows wanted actual)
 unfolding matching
-matching_fits ks below vars rows wanted actual h g =
-    matching_by (length wanted == length actual) (matched below vars rows wanted actual) (eq-eqb _ _ (as_many ks wanted actual h g))
-    (matched_large ks below vars rows wanted actual h g)
+matching_fits ks below vars rows wanted actual h g = by_rule_fits (rules.matching below vars rows wanted actual) (matching_rules ks below vars rows wanted actual h g)
+
+-- ---- kinds, before any form is looked at
+
+kinds_by : (b : Truth) (m : Ruling (Unit {0})) → b ≡ true → Rules Anything m → Rules Anything (cond b m (Err WrongKind))
+kinds_by true m e h = h
+kinds_by false m e h = absurd (cc)
+
+pub of_kinds_rules : (ks : List Kind) (wanted actual : List Ty) → HaveKindsOf ks wanted → AreOfKinds ks actual → Rules Anything (rules.of_kinds wanted actual)
+unfolding rules.of_kinds
+of_kinds_rules [] [] [] h g = record { is = tt }
+of_kinds_rules [] [] (t ∷ ts) h g = absurd g
+of_kinds_rules [] (w ∷ ws) actual h g = absurd h
+of_kinds_rules (k ∷ ks) [] actual h g = absurd h
+of_kinds_rules (k ∷ ks) (w ∷ ws) [] h g = absurd g
+of_kinds_rules (k ∷ ks) (w ∷ ws) (t ∷ ts) h g =
+    kinds_by (same_kind w t) (rules.of_kinds ws ts) (like_kinds w t (wanted_kind k w t h.0 g.0)) (of_kinds_rules ks ws ts h.1 g.1)

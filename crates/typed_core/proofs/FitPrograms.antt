@@ -2,7 +2,7 @@
 use Rattle.std.proofs.Common.{◌≡◌, ◌≢◌, ℕ, zero, suc, ◌+◌, List, [], ◌∷◌, ◌++◌, map, length, take, Bool as Truth, true, false, cond, Option, Some, None, Ok, Err, refl, sym, ap, subst, ◌∙◌, inl, inr, arith}
 use Rattle.std.specs.Prelude.{slice_get}
 use Rattle.std.specs.Option.{option_and_then}
-use Rattle.std.specs.List.{AllByRecursion, enumerate_from, range_with_len}
+use Rattle.std.specs.List.{AllByRecursion, enumerate_from, list_all, range_with_len}
 use Rattle.std.proofs.lemmas.Option.{same_Some}
 use Rattle.xan_lin.specs.Linear.{Linear}
 use Rattle.xan_lin.specs.declared.term.LimitKind.TheVariants as limit
@@ -13,6 +13,9 @@ use Rattle.state_types.specs.declared.closed.Packed.{Packed}
 use Rattle.state_types.specs.declared.closed.Signature.{Signature}
 use Rattle.state_types.specs.declared.types.Ty.{Ty}
 use Rattle.state_types.specs.declared.types.Ty.TheVariants as ty
+use Rattle.operation_rules.specs.Faults.{Ruling, or_fault}
+use Rattle.operation_rules.specs.Rules.{only_tuple, tuple_at, cell_with, cell_at}
+use Rattle.operation_rules.specs.declared.error.Fault.TheVariants.{NoType}
 use Rattle.xanadu_tree.specs.declared.linear.Linear.{Linear as Exact}
 use Rattle.xanadu_tree.specs.declared.types.CoreTy.{CoreTy}
 use Rattle.xanadu_tree.specs.declared.types.Kind.{Kind}
@@ -27,15 +30,17 @@ use Rattle.typed_core.specs.declared.note.Note.{Note}
 use Rattle.typed_core.specs.Forms.{form_of, type_of, forms_from, types_from}
 use Rattle.typed_core.specs.Goals.{body_start, function, functions, elaborated}
 use Rattle.typed_core.specs.Headers.{few_parts, few_parameters, few_declarations, closed_type, closed_types, signature, signatures}
-use Rattle.typed_core.specs.Limits.{Past, Misfit, Walk, within, needed, in_context}
+use Rattle.typed_core.specs.Limits.{Past, Misfit, Stray, Walk, within, needed, in_context, held}
 use Rattle.typed_core.specs.Places.{places_of}
-use Rattle.typed_core.specs.States.{Site, there, only_tuple, tuple_at, cell_with, cell_at}
+use Rattle.typed_core.specs.States.{Site, there}
 use Rattle.typed_core.specs.Statements.{block}
-use Rattle.typed_core.proofs.Fitting.{Anything, Fits, Behind, then_answers, weaker, any_answer, needed_fits, context_fits, there_fits, within_fits, behind_none, behind_one}
+use Rattle.typed_core.specs.Strays.{form_rises, type_rises, form_below, is_closed}
+use Rattle.typed_core.proofs.Fitting.{Anything, Fits, Behind, then_answers, weaker, any_answer, needed_fits, context_fits, there_fits, within_fits, held_fits, behind_none, behind_one}
 use Rattle.typed_core.proofs.TypeKinds.{ty_kind, some_kind, HaveKindsOf, IsOfKind, type_kind}
 use Rattle.typed_core.proofs.KnownTypes.{IsListed, IsEntry, Knows, all_weaker}
 use Rattle.typed_core.proofs.FitStates.{rows_full}
-use Rattle.typed_core.proofs.FitOperands.{IsCell, IsTuple, IsCallee, Suits}
+use Rattle.typed_core.proofs.FitRules.{IsCell, IsTuple}
+use Rattle.typed_core.proofs.FitOperands.{IsCallee, Suits}
 use Rattle.typed_core.proofs.FitStatements.{KnowsAt, block_fits}
 
 -- ---- how many there are
@@ -63,7 +68,8 @@ forms_fit : (forms : List Exact) (made : List Linear) → Fits Anything (forms_f
 unfolding forms_from
 forms_fit [] made = record { is = tt }
 forms_fit (form ∷ forms) made =
-    then_answers (needed (form_of form)) _ (needed_fits (form_of form) (any_answer (form_of form))) (λ one u. forms_fit forms (made ++ one ∷ []))
+    then_answers (held (form_rises form)) _ (held_fits (form_rises form))
+    (λ rises v. then_answers (needed (form_of form)) _ (needed_fits (form_of form) (any_answer (form_of form))) (λ one u. forms_fit forms (made ++ one ∷ [])))
 
 HaveKindsLike : List CoreTy → List Ty → Type 0
 HaveKindsLike cs ts = HaveKindsOf (map kind_of cs) ts
@@ -72,8 +78,9 @@ types_fit_from : (cs : List CoreTy) (made : List Ty) → Fits (Behind made (Have
 unfolding types_from HaveKindsLike
 types_fit_from [] made = record { is = behind_none made (HaveKindsLike []) tt }
 types_fit_from (c ∷ cs) made =
-    then_answers (needed (type_of c)) _ (needed_fits (type_of c) (type_kind c))
-    (λ one e. weaker (types_from cs (made ++ one ∷ [])) (λ all b. behind_one made one (HaveKindsLike cs) (HaveKindsLike (c ∷ cs)) all (λ rest h. (e, h)) b) (types_fit_from cs (made ++ one ∷ [])))
+    then_answers (held (type_rises c)) _ (held_fits (type_rises c))
+    (λ rises u. then_answers (needed (type_of c)) _ (needed_fits (type_of c) (type_kind c))
+    (λ one e. weaker (types_from cs (made ++ one ∷ [])) (λ all b. behind_one made one (HaveKindsLike cs) (HaveKindsLike (c ∷ cs)) all (λ rest h. (e, h)) b) (types_fit_from cs (made ++ one ∷ []))))
 
 types_fit : (cs : List CoreTy) → Fits (HaveKindsOf (map kind_of cs)) (types_from cs [])
 unfolding HaveKindsLike
@@ -98,7 +105,8 @@ closed_fits p =
     (λ rows u. then_answers (types_from p.parts []) _ (types_fit p.parts)
     (λ parts h. then_answers (within limit.Variables p.quant.count) _ (within_fits limit.Variables p.quant.count)
     (λ few v. then_answers (within limit.Rows (length p.quant.rows)) _ (within_fits limit.Rows (length p.quant.rows))
-    (λ less w. record { is = record { tuple = refl; kinds = h } }))))
+    (λ less w. let made : Packed = record { vars = p.quant.count; rows = rows; parts = parts; tuple = p.tuple } in
+    then_answers (held (is_closed made)) _ (held_fits (is_closed made)) (λ closed x. record { is = record { tuple = refl; kinds = h } })))))
 
 closed_all : (ps : List Packing) (made : List Packed) → Fits (Behind made (AreClosed ps)) (closed_types ps made)
 unfolding closed_types AreClosed
@@ -131,7 +139,7 @@ cell_of : (table : List Packed) (element : ℕ) (held : Kind) (packed : Packed) 
 unfolding cell_at
 cell_of table element held packed f = record {
   packed = cell_with element packed;
-  at = ap (λ o. there o >>= (λ p. let r : Walk Packed = Ok (cell_with element p) in r)) f.at;
+  at = ap (λ o. or_fault NoType o >>= (λ p. let r : Ruling Packed = Ok (cell_with element p) in r)) f.at;
   kinds = f.kinds;
 }
 
@@ -152,7 +160,7 @@ held_by false element held parts packed same many e h =
     subst (λ b. HaveKindsOf (held ∷ []) (cond b (record { vars = 0; rows = []; parts = ty.Named element ∷ []; tuple = false }) packed).parts) (sym same)
     (one_part parts packed.parts held many e h)
 
-tuple_by : (b : Truth) (packed : Packed) → packed.tuple ≡ true → packed.tuple ≡ b → cond b (let r : Walk Packed = Ok packed in r) (Err Misfit) ≡ Ok packed
+tuple_by : (b : Truth) (packed : Packed) → packed.tuple ≡ true → packed.tuple ≡ b → cond b (let r : Ruling Packed = Ok packed in r) (Err NoType) ≡ Ok packed
 tuple_by true packed t same = refl
 tuple_by false packed t same = absurd (cc)
 
@@ -172,7 +180,7 @@ tuple_of : (table : List Packed) (number : ℕ) (packed : Packed) (parts : List 
 unfolding tuple_at
 tuple_of table number packed parts at tuple kinds = record {
   packed = packed;
-  at = ap (λ o. there o >>= (λ p. only_tuple p)) at ∙ tuple_by packed.tuple packed tuple refl;
+  at = ap (λ o. or_fault NoType o >>= (λ p. only_tuple p)) at ∙ tuple_by packed.tuple packed tuple refl;
   kinds = kinds;
 }
 
@@ -233,11 +241,12 @@ signature_fits f =
     then_answers (forms_from f.quant.rows []) _ (forms_fit f.quant.rows [])
     (λ rows a. then_answers (types_from f.params []) _ (types_fit f.params)
     (λ params h. then_answers (forms_from f.result_quant.rows []) _ (forms_fit f.result_quant.rows [])
-    (λ result_rows b. then_answers (needed (type_of f.result)) _ (needed_fits (type_of f.result) (type_kind f.result))
+    (λ result_rows b. then_answers (held (type_rises f.result)) _ (held_fits (type_rises f.result))
+    (λ rises l. then_answers (needed (type_of f.result)) _ (needed_fits (type_of f.result) (type_kind f.result))
     (λ result e. then_answers (within limit.Variables (f.quant.count + f.result_quant.count)) _ (within_fits limit.Variables (f.quant.count + f.result_quant.count))
     (λ c d. then_answers (within limit.Rows (length f.quant.rows)) _ (within_fits limit.Rows (length f.quant.rows))
     (λ g i. then_answers (within limit.Rows (length f.result_quant.rows)) _ (within_fits limit.Rows (length f.result_quant.rows))
-    (λ j k. record { is = record { params = h; result = e } })))))))
+    (λ j k. record { is = record { params = h; result = e } }))))))))
 
 signatures_fit : (fs : List core.Fun) (made : List Signature) → Fits (Behind made (AreSigned fs)) (signatures fs made)
 unfolding signatures AreSigned
@@ -328,8 +337,10 @@ module _ (types : List Packing) (headers : List Header) (f : core.Fun) (is : IsF
   start_fits : (goals : List GoalAt) (notes : List Note) → Fits (KnowsAt (setting types headers f) (shaped.body_start f)) (body_start sig goals notes)
   unfolding body_start
   start_fits goals notes =
-      then_answers (in_context (with_rows (record { vars = sig.vars; rows = [] }) sig.rows)) _
-      (context_fits (with_rows (record { vars = sig.vars; rows = [] }) sig.rows) (rows_full (record { vars = sig.vars; rows = [] }) sig.rows)) (λ ctx u. record { is = params_known })
+      then_answers (within limit.Parameters (length sig.params)) _ (within_fits limit.Parameters (length sig.params))
+      (λ few u. then_answers (held (list_all (form_below sig.vars) sig.rows)) _ (held_fits (list_all (form_below sig.vars) sig.rows))
+      (λ named v. then_answers (in_context (with_rows (record { vars = sig.vars; rows = [] }) sig.rows)) _
+      (context_fits (with_rows (record { vars = sig.vars; rows = [] }) sig.rows) (rows_full (record { vars = sig.vars; rows = [] }) sig.rows)) (λ ctx w. record { is = params_known })))
 
 module _ (types : List Packing) (packings : AllByRecursion (IsPacking types) types) (cs : List Packed) (closed : AreClosed types cs) (funs : List core.Fun)
     (sigs : List Signature) (signed : AreSigned funs sigs) where
@@ -382,6 +393,7 @@ not_misfit : {A : Type 0} {P : A → Type 0} (m : Walk A) → Fits P m → m ≡
 not_misfit (Ok x) h e = cc
 not_misfit (Err (Past kind)) h e = cc
 not_misfit (Err Misfit) h e = h.is
+not_misfit (Err Stray) h e = cc
 
 pub shaped_fits : (program : core.Program) → Shaped program → elaborated program ≢ Err Misfit
 shaped_fits program is = not_misfit (elaborated program) (elaborated_fits program is)

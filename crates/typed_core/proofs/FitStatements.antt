@@ -1,12 +1,16 @@
 -- Statements of a core leave each visible variable a type of its kind, or are stopped by a limit.
-use Rattle.std.proofs.Common.{◌≡◌, ℕ, ◌+◌, List, [], ◌∷◌, ◌++◌, map, length, Bool as Truth, true, false, Option, Some, None, refl, sym, ap, subst, ◌∙◌, inl, inr}
+use Rattle.std.proofs.Common.{◌≡◌, ℕ, List, [], ◌∷◌, ◌++◌, map, length, Bool as Truth, true, false, Option, Some, None, refl, sym, ap, subst, ◌∙◌, inl, inr, arith}
 use Rattle.std.specs.Prelude.{◌||◌, slice_get}
 use Rattle.std.specs.List.{AllByRecursion, AllZip, range_with_len}
 use Rattle.xan_lin.specs.Subst.{zero_form}
+use Rattle.state_types.specs.declared.state.StateType.{StateType}
 use Rattle.state_types.specs.declared.types.Ty.{Ty}
 use Rattle.state_types.specs.declared.types.Ty.TheVariants as ty
+use Rattle.operation_rules.specs.Rules.{rule}
+use Rattle.operation_rules.specs.declared.operation.Operation.TheVariants.{Untuple, Store, Print, Return}
 use Rattle.xanadu_tree.specs.declared.stmt.Clause.{Clause}
 use Rattle.xanadu_tree.specs.declared.types.CoreTy.{CoreTy}
+use Rattle.xanadu_tree.specs.declared.types.CoreTy.TheVariants as core_ty
 use Rattle.xanadu_tree.specs.declared.types.Kind.{Kind}
 use Rattle.xanadu_tree.specs.declared.types.Kind.TheVariants as kind
 use Rattle.xanadu_tree.specs.declared.types.Packing.{Packing}
@@ -14,16 +18,17 @@ use Rattle.xanadu_tree.specs.BodyRules.{Point, behind_block, completes_all, IsTa
 use Rattle.xanadu_tree.specs.KindRules.{kind_of, IsValue, tuple_type, Setting, IsAmong, HasKind}
 use Rattle.xanadu_tree.specs.Plain as core
 use Rattle.typed_core.specs.Joins.{changes_any, stated, joined, entered, entered_if}
-use Rattle.typed_core.specs.Operands.{operand, bounds}
-use Rattle.typed_core.specs.States.{Site, State, noting_state, as_number, as_array, as_tuple, given, tuple_at, cell_at, opened, matching}
-use Rattle.typed_core.specs.Statements.{assigned, all_given, split, stored, store, done, printed, matched_result, returning, Branches, meeting, after_branches, other_branch, statement, block}
+use Rattle.typed_core.specs.Constructs.{setting_of, types_by, state_by}
+use Rattle.typed_core.specs.Operands.{operand}
+use Rattle.typed_core.specs.States.{Site, State, point, noting_state, as_tuple, given}
+use Rattle.typed_core.specs.Statements.{assigned, all_given, split, store, done, printed, returning, Branches, meeting, after_branches, other_branch, statement, block}
 use Rattle.typed_core.specs.Tests.{tested, on_side}
-use Rattle.typed_core.proofs.Fitting.{Anything, Fits, then_answers, weaker}
-use Rattle.typed_core.proofs.TypeKinds.{ty_kind, some_kind, HaveKindsOf, IsOfKind, number_fits, array_fits, tuple_fits}
-use Rattle.typed_core.proofs.FitMatches.{matching_fits}
+use Rattle.typed_core.proofs.Fitting.{Anything, Fits, Rules, then_answers, weaker}
+use Rattle.typed_core.proofs.TypeKinds.{ty_kind, some_kind, AreOfKinds, tuple_fits}
+use Rattle.typed_core.proofs.FitRules.{IsCell, GivesKinds, untuple_rules, store_rules, print_rules, return_rules}
+use Rattle.typed_core.proofs.FitConstructs.{types_by_fits, state_by_fits}
 use Rattle.typed_core.proofs.KnownTypes.{Knows, AreWithin, knows_same, given_fits, knows_still}
-use Rattle.typed_core.proofs.FitStates.{demanding_keeps, opened_fits}
-use Rattle.typed_core.proofs.FitOperands.{IsCell, Suits, cell_fits, tuple_at_fits, bounds_fits, operand_fits}
+use Rattle.typed_core.proofs.FitOperands.{Suits, operand_fits}
 use Rattle.typed_core.proofs.FitTests.{tested_fits}
 use Rattle.typed_core.proofs.FitJoins.{IsStatedOf, clause_stated, clause_visible, joined_fits, entered_fits, entered_if_fits}
 
@@ -98,15 +103,28 @@ AreGiven kinds [] (t ∷ ts) = ⊥
 AreGiven kinds (x ∷ xs) [] = ⊥
 AreGiven kinds (x ∷ xs) (t ∷ ts) = (slice_get kinds x ≡ Some (ty_kind t)) × AreGiven kinds xs ts
 
+core_value : (t : CoreTy) → IsValue (kind_of t)
+core_value (core_ty.Int form) = tt
+core_value core_ty.Bool = tt
+core_value (core_ty.Array element form) = tt
+core_value (core_ty.Named number) = tt
+
 given_of : (kinds : List Kind) (xs : List ℕ) (parts : List CoreTy) (ts : List Ty) → AllZip (λ x part. slice_get kinds x ≡ Some (kind_of part)) xs parts
-    → HaveKindsOf (map kind_of parts) ts → AreGiven kinds xs ts
+    → AreOfKinds (map kind_of parts) ts → AreGiven kinds xs ts
 given_of kinds [] [] [] all have = tt
 given_of kinds [] [] (t ∷ ts) all have = absurd have
 given_of kinds [] (p ∷ ps) ts all have = absurd all
 given_of kinds (x ∷ xs) [] ts all have = absurd all
 given_of kinds (x ∷ xs) (p ∷ ps) [] all have = absurd have
 given_of kinds (x ∷ xs) (p ∷ ps) (t ∷ ts) all have =
-    (all.0 ∙ some_kind have.0, given_of kinds xs ps ts all.1 have.1)
+    (all.0 ∙ some_kind (have.0 (core_value p)), given_of kinds xs ps ts all.1 have.1)
+
+-- as many variables as parts
+split_many : (kinds : List Kind) (xs : List ℕ) (parts : List CoreTy) → AllZip (λ x part. slice_get kinds x ≡ Some (kind_of part)) xs parts → length (map kind_of parts) ≡ length xs
+split_many kinds [] [] all = refl
+split_many kinds [] (p ∷ ps) all = absurd all
+split_many kinds (x ∷ xs) [] all = absurd all
+split_many kinds (x ∷ xs) (p ∷ ps) all = (let rest = split_many kinds xs ps all.1 in omega (arith, rest))
 
 all_given_fits : (kinds : List Kind) (visible : List ℕ) (xs : List ℕ) (ts : List Ty) (st : State) → Knows kinds visible st.types → AreGiven kinds xs ts
     → Fits (λ more. Knows kinds (xs ++ visible) more.types) (all_given xs ts st)
@@ -140,22 +158,13 @@ module _ (set : Setting) (site : Site) (suits : Suits set site) (before : Point)
       let parts = map kind_of packing.parts in
       then_answers (operand site e st) _ (operand_fits set site suits before.visible e (kind.Named number) st h knows)
       (λ r g. then_answers (as_tuple r.0) _ (tuple_fits number r.0 (g.0 tt))
-      (λ n same. then_answers (tuple_at site.table n) _ (tuple_at_fits site.table number n parts (suits.tuples number packing tuple) same)
-      (λ packed kinds. then_answers (opened packed r.1) _ (opened_fits (Knows set.kinds before.visible) parts packed r.1 kinds g.1)
+      (λ n same. then_answers (types_by site None (Untuple n (length xs)) (r.0 ∷ []) r.1) _
+      (types_by_fits (Knows set.kinds before.visible) parts site None (Untuple n (length xs)) (r.0 ∷ []) r.1
+      (subst (λ m. Rules (GivesKinds parts) (rule (setting_of site) (Untuple m (length xs)) (r.0 ∷ []) r.1.ctx.vars)) same
+      (untuple_rules (setting_of site) r.1.ctx.vars number (length xs) parts r.0 (suits.tuples number packing tuple) (split_many set.kinds xs packing.parts is.kinds) (g.0 tt))) g.1)
       (λ o l. weaker (all_given xs o.0 o.1)
       (λ more m. subst (λ p. Knows set.kinds p.visible more.types) (sym is.behind) (subst (λ ys. Knows set.kinds (ys ++ before.visible) more.types) is.next m))
-      (all_given_fits set.kinds before.visible xs o.0 o.1 l.1 (given_of set.kinds xs packing.parts o.0 is.kinds l.0))))))
-
-  stored_fits : (at element : ℕ) (held : Kind) (array index value : Ty) (st : State) → IsCell site.table element held → kind.Array element ≡ ty_kind array
-      → kind.Int ≡ ty_kind index → IsOfKind held value → KnowsAt set before st → Fits (KnowsAt set before) (stored site at array index value st)
-  unfolding stored
-  stored_fits at element held array index value st cell a i v knows =
-      then_answers (as_array array) _ (array_fits element array a)
-      (λ r same. then_answers (as_number index) _ (number_fits index i)
-      (λ f u. then_answers (bounds r.1 f) _ (bounds_fits r.1 f)
-      (λ rows w. then_answers (cell_at site.table r.0) _ (cell_fits site.table element r.0 held cell same)
-      (λ c kinds. then_answers (matching 0 c.vars c.rows c.parts (value ∷ [])) _ (matching_fits (held ∷ []) 0 c.vars c.rows c.parts (value ∷ []) kinds (v, tt))
-      (λ found x. record { is = demanding_keeps (Knows set.kinds before.visible) site at (rows ++ found.rows) st knows })))))
+      (all_given_fits set.kinds before.visible xs o.0 o.1 l.1 (given_of set.kinds xs packing.parts o.0 is.kinds l.0)))))
 
   store_fits : (array index value : core.Expr) (at element : ℕ) (held : Kind) (st : State) → HasKind set before.visible array (kind.Array element)
       → HasKind set before.visible index kind.Int → IsCell site.table element held → HasKind set before.visible value held → KnowsAt set before st
@@ -165,7 +174,8 @@ module _ (set : Setting) (site : Site) (suits : Suits set site) (before : Point)
       then_answers (operand site array st) _ (operand_fits set site suits before.visible array (kind.Array element) st a knows)
       (λ r g. then_answers (operand site index r.1) _ (operand_fits set site suits before.visible index kind.Int r.1 i g.1)
       (λ s l. then_answers (operand site value s.1) _ (operand_fits set site suits before.visible value held s.1 v l.1)
-      (λ t m. stored_fits at element held r.0 s.0 t.0 t.1 cell (g.0 tt) (l.0 tt) m.0 m.1)))
+      (λ t m. state_by_fits (Knows set.kinds before.visible) site (Some at) Store (r.0 ∷ s.0 ∷ t.0 ∷ []) t.1
+      (store_rules (setting_of site) t.1.ctx.vars element held r.0 s.0 t.0 cell (g.0 tt) (l.0 tt) m.0) m.1)))
 
   done_fits : (call : core.Expr) (k : Kind) (st : State) → HasKind set before.visible call k → KnowsAt set before st → Fits (KnowsAt set before) (done site call st)
   unfolding done
@@ -175,45 +185,42 @@ module _ (set : Setting) (site : Site) (suits : Suits set site) (before : Point)
   unfolding printed
   printed_fits e st h knows =
       then_answers (operand site e st) _ (operand_fits set site suits before.visible e kind.Int st h knows)
-      (λ r g. then_answers (as_number r.0) _ (number_fits r.0 (g.0 tt)) (λ f u. record { is = g.1 }))
+      (λ r g. state_by_fits (Knows set.kinds before.visible) site None Print (r.0 ∷ []) r.1 (print_rules (setting_of site) r.1.ctx.vars r.0 (g.0 tt)) g.1)
 
-  matched_fits : (at : ℕ) (t : Ty) (st : State) → ty_kind site.own.result ≡ ty_kind t → KnowsAt set before st → Fits (KnowsAt set before) (matched_result site at t st)
-  unfolding matched_result
-  matched_fits at t st same knows =
-      let own = site.own in
-      then_answers (matching own.vars (own.vars + own.result_vars) own.result_rows (own.result ∷ []) (t ∷ [])) _
-      (matching_fits (ty_kind own.result ∷ []) own.vars (own.vars + own.result_vars) own.result_rows (own.result ∷ []) (t ∷ []) (refl, tt) ((λ value. same), tt))
-      (λ found u. record { is = demanding_keeps (Knows set.kinds before.visible) site at found.rows st knows })
+  returned_fits : (at : ℕ) (t : Ty) (st : State) → ty_kind site.own.result ≡ ty_kind t → KnowsAt set before st
+      → Fits (KnowsAt set before) (state_by site (Some at) Return (t ∷ []) st)
+  returned_fits at t st same knows =
+      state_by_fits (Knows set.kinds before.visible) site (Some at) Return (t ∷ []) st (return_rules (setting_of site) st.ctx.vars t same) knows
 
   returning_fits : (value : Option core.Expr) (at : ℕ) (st : State) → IsReturn set before.visible value → KnowsAt set before st → Fits (KnowsAt set before) (returning site value at st)
   unfolding returning
-  returning_fits None at st h knows = matched_fits at (ty.Int zero_form) st (sym (suits.unit h)) knows
+  returning_fits None at st h knows = returned_fits at (ty.Int zero_form) st (sym (suits.unit h)) knows
   returning_fits (Some e) at st h knows =
       then_answers (operand site e st) _ (operand_fits set site suits before.visible e set.result st h.1 knows)
-      (λ r g. matched_fits at r.0 r.1 (sym (suits.result h.0) ∙ g.0 h.0) g.1)
+      (λ r g. returned_fits at r.0 r.1 (sym (suits.result h.0) ∙ g.0 h.0) g.1)
 
 -- ---- where branches meet
 
 module _ (kinds : List Kind) (visible first second : List ℕ) (in_first : AreWithin visible first) (in_second : AreWithin visible second) where
-  meeting_fits : (site : Site) (at : ℕ) (clause : Clause) (changed : ℕ → Truth) (before : State) (ends : Branches) → AllByRecursion (IsStatedOf kinds visible) clause.vars
-      → Knows kinds visible before.types → Knows kinds first ends.one.types → Knows kinds second ends.two.types
-      → Fits (λ more. Knows kinds visible more.types) (meeting site at clause changed before ends)
+  meeting_fits : (site : Site) (at : ℕ) (clause : Clause) (changed : ℕ → Truth) (before : StateType) (ends : Branches) (latest : State)
+      → AllByRecursion (IsStatedOf kinds visible) clause.vars → Knows kinds visible before.places → Knows kinds first ends.one.places → Knows kinds second ends.two.places
+      → Fits (λ more. Knows kinds visible more.types) (meeting site at clause changed before ends latest)
   unfolding meeting
-  meeting_fits site at clause changed before ends all knows one two =
-      then_answers (joined site clause changed before ends.two) _ (joined_fits kinds visible site clause changed before ends.two all knows)
+  meeting_fits site at clause changed before ends latest all knows one two =
+      then_answers (joined site clause changed before latest) _ (joined_fits kinds visible site clause changed before latest all knows)
       (λ j h. then_answers (entered_if ends.one_completes site at j.0 ends.one j.1) _
       (entered_if_fits kinds visible first in_first (Knows kinds visible) ends.one_completes site at j.0 ends.one j.1 h.0 one h.1)
       (λ more l. entered_if_fits kinds visible second in_second (Knows kinds visible) ends.two_completes site at j.0 ends.two more h.0 two l))
 
-  after_fits : (one_completes two_completes : Truth) (join : Option Clause) (site : Site) (at : ℕ) (changed : ℕ → Truth) (before one two : State)
-      → AllByRecursion (IsStatedOf kinds visible) (stated join).vars → Knows kinds visible before.types → Knows kinds first one.types → Knows kinds second two.types
+  after_fits : (one_completes two_completes : Truth) (join : Option Clause) (site : Site) (at : ℕ) (changed : ℕ → Truth) (before one : StateType) (two : State)
+      → AllByRecursion (IsStatedOf kinds visible) (stated join).vars → Knows kinds visible before.places → Knows kinds first one.places → Knows kinds second two.types
       → Fits (λ more. Knows kinds visible more.types) (after_branches one_completes two_completes join site at changed before one two)
   unfolding after_branches noting_state
   after_fits false false join site at changed before one two all knows k l = record { is = knows }
-  after_fits true false None site at changed before one two all knows k l = record { is = knows_still kinds visible first before.types one.types knows k }
-  after_fits false true None site at changed before one two all knows k l = record { is = knows_still kinds visible second before.types two.types knows l }
+  after_fits true false None site at changed before one two all knows k l = record { is = knows_still kinds visible first before.places one.places knows k }
+  after_fits false true None site at changed before one two all knows k l = record { is = knows_still kinds visible second before.places two.types knows l }
   after_fits a b join site at changed before one two all knows k l =
-      meeting_fits site at (stated join) changed before (record { one = one; two = two; one_completes = a; two_completes = b }) all knows k l
+      meeting_fits site at (stated join) changed before (record { one = one; two = point two; one_completes = a; two_completes = b }) two all knows k l
 
 -- ---- statements and blocks
 
@@ -237,22 +244,22 @@ module _ (set : Setting) (site : Site) (suits : Suits set site) where
         (λ sides g. then_answers (block site on_true (on_side sides.on_true sides.after)) _ (block_fits on_true before is.0 (on_side sides.on_true sides.after) is.3 g)
         (λ one k. then_answers (block site on_false (other_branch sides.on_false st one)) _
         (block_fits on_false (behind_block before is.0) is.1 (other_branch sides.on_false st one) is.4 knows)
-        (λ two l. weaker (after_branches (completes_all on_true) (completes_all on_false) join site at changed st one two)
+        (λ two l. weaker (after_branches (completes_all on_true) (completes_all on_false) join site at changed (point st) (point one) two)
         (λ more m. subst (λ v. Knows set.kinds v more.types) (sym (clause_visible set (behind_block before is.1) join after is.5)) m)
         (after_fits set.kinds visible is.0.visible is.1.visible (block_within set before on_true is.0 is.3) (block_within set (behind_block before is.0) on_false is.1 is.4)
-        (completes_all on_true) (completes_all on_false) join site at changed st one two (clause_stated set (behind_block before is.1) join after is.5) knows k l))))
+        (completes_all on_true) (completes_all on_false) join site at changed (point st) (point one) two (clause_stated set (behind_block before is.1) join after is.5) knows k l))))
     statement_fits (core.While test head body at) before after st is knows =
         let visible = before.visible in
         let same = clause_visible set before head is.0 is.3 in
         let within : AreWithin visible is.1.visible = subst (λ v. AreWithin v is.1.visible) same (block_within set is.0 body is.1 is.4) in
-        then_answers (joined site (stated head) (changes_any body) st st) _
-        (joined_fits set.kinds visible site (stated head) (changes_any body) st st (clause_stated set before head is.0 is.3) knows)
-        (λ j h. then_answers (entered site at j.0 st j.1) _ (entered_fits set.kinds visible visible (λ y a. a) (Knows set.kinds visible) site at j.0 st j.1 h.0 knows h.1)
+        then_answers (joined site (stated head) (changes_any body) (point st) st) _
+        (joined_fits set.kinds visible site (stated head) (changes_any body) (point st) st (clause_stated set before head is.0 is.3) knows)
+        (λ j h. then_answers (entered site at j.0 (point st) j.1) _ (entered_fits set.kinds visible visible (λ y a. a) (Knows set.kinds visible) site at j.0 (point st) j.1 h.0 knows h.1)
         (λ begun g. then_answers (tested site test begun) _ (tested_fits set site suits visible test begun is.2 g)
         (λ sides k. then_answers (block site body (on_side sides.on_true sides.after)) _
         (block_fits body is.0 is.1 (on_side sides.on_true sides.after) is.4 (subst (λ v. Knows set.kinds v sides.after.types) (sym same) k))
-        (λ turn l. then_answers (entered_if (completes_all body) site at j.0 turn turn) _
-        (entered_if_fits set.kinds visible is.1.visible within Anything (completes_all body) site at j.0 turn turn h.0 l tt)
+        (λ turn l. then_answers (entered_if (completes_all body) site at j.0 (point turn) turn) _
+        (entered_if_fits set.kinds visible is.1.visible within Anything (completes_all body) site at j.0 (point turn) turn h.0 l tt)
         (λ back m. record { is = subst (λ v. Knows set.kinds v j.1.types) (sym (ap (λ p. p.visible) is.5 ∙ same)) h.1 })))))
     statement_fits (core.Return value at) before after st is knows =
         subst (λ p. Fits (KnowsAt set p) (returning site value at st)) (sym is.1) (returning_fits set site suits before value at st is.0 knows)

@@ -1,20 +1,20 @@
 -- What is taken to hold, demanded and noted changes no type, and stops at a limit at most.
-use Rattle.std.proofs.Common.{◌≡◌, ℕ, ◌+◌, List, [], ◌∷◌, map, length, nat_lt, Bool as Truth, true, false, cond, Result, Ok, Err}
+use Rattle.std.proofs.Common.{ℕ, ◌+◌, List, [], ◌∷◌, length, nat_lt, Bool as Truth, true, false, cond, Result, Ok, Err}
 use Rattle.std.specs.Prelude.{nat_le}
-use Rattle.index_sorts.specs.Context.{IndexContext, fresh_from, with_variables}
+use Rattle.index_sorts.specs.Context.{IndexContext, fresh_from}
 use Rattle.index_sorts.specs.Known.{knows, with_row}
 use Rattle.index_sorts.specs.declared.error.ContextError.{ContextError}
 use Rattle.index_sorts.specs.declared.error.ContextError.TheVariants as context_error
 use Rattle.xan_lin.specs.Linear.{Linear}
 use Rattle.xan_lin.specs.declared.term.TooLarge.{TooLarge}
-use Rattle.state_types.specs.Unpacking.{shifted, with_rows, unpacked}
-use Rattle.state_types.specs.declared.closed.Packed.{Packed}
+use Rattle.state_types.specs.Unpacking.{with_rows}
 use Rattle.state_types.specs.declared.types.Ty.{Ty}
-use Rattle.xanadu_tree.specs.declared.types.Kind.{Kind}
-use Rattle.typed_core.specs.Limits.{in_context}
-use Rattle.typed_core.specs.States.{Site, State, with_fresh, assumed, all_assumed, assuming, number, demanding, noting_state, opened, first_part}
-use Rattle.typed_core.proofs.Fitting.{Answers, Anything, Fits, IsFull, then_answers, context_fits}
-use Rattle.typed_core.proofs.TypeKinds.{ty_kind, HaveKindsOf, shifted_kinds}
+use Rattle.operation_rules.specs.Applied as rules
+use Rattle.operation_rules.specs.Applied.{widened, all_assuming}
+use Rattle.operation_rules.specs.Faults.{filled}
+use Rattle.typed_core.specs.Limits.{by_rule}
+use Rattle.typed_core.specs.States.{Site, State, with_fresh, assuming, demanding, noting_state}
+use Rattle.typed_core.proofs.Fitting.{Answers, Anything, Fits, IsFull, then_answers, filled_rules, by_rule_fits}
 
 -- ---- contexts
 
@@ -39,37 +39,35 @@ unfolding with_rows
 rows_full ctx [] = record { is = tt }
 rows_full ctx (row ∷ rows) = then_answers (with_row ctx row) _ (row_full ctx row) (λ more u. rows_full more rows)
 
-unpacked_full : (ks : List Kind) (ctx : IndexContext) (packed : Packed) → HaveKindsOf ks packed.parts → Answers IsFull (λ r. HaveKindsOf ks r.1) (unpacked ctx packed)
-unfolding unpacked
-unpacked_full ks ctx packed kinds =
-    then_answers (fresh_from ctx packed.vars) _ (fresh_full ctx packed.vars)
-    (λ first u. then_answers (with_rows (with_variables ctx packed.vars) (map (shifted first) packed.rows)) _ (rows_full (with_variables ctx packed.vars) (map (shifted first) packed.rows))
-    (λ more v. record { is = shifted_kinds first ks packed.parts kinds }))
+pub widened_full : (count : ℕ) (ctx : IndexContext) → Answers IsFull Anything (widened count ctx)
+unfolding widened
+widened_full count ctx = then_answers (fresh_from ctx count) _ (fresh_full ctx count) (λ first u. record { is = tt })
 
-assumed_fits : (row : Result Linear TooLarge) (ctx : IndexContext) → Fits Anything (assumed row ctx)
-assumed_fits (Ok row) ctx = context_fits (with_row ctx row) (row_full ctx row)
-assumed_fits (Err why) ctx = record { is = tt }
+assuming_full : (row : Result Linear TooLarge) (ctx : IndexContext) → Answers IsFull Anything (rules.assuming row ctx)
+assuming_full (Ok row) ctx = row_full ctx row
+assuming_full (Err why) ctx = record { is = tt }
 
-pub all_assumed_fits : (rows : List (Result Linear TooLarge)) (ctx : IndexContext) → Fits Anything (all_assumed rows ctx)
-unfolding all_assumed
-all_assumed_fits [] ctx = record { is = tt }
-all_assumed_fits (row ∷ rows) ctx = then_answers (assumed row ctx) _ (assumed_fits row ctx) (λ more u. all_assumed_fits rows more)
+pub all_assuming_full : (rows : List (Result Linear TooLarge)) (ctx : IndexContext) → Answers IsFull Anything (all_assuming rows ctx)
+unfolding all_assuming
+all_assuming_full [] ctx = record { is = tt }
+all_assuming_full (row ∷ rows) ctx = then_answers (rules.assuming row ctx) _ (assuming_full row ctx) (λ more u. all_assuming_full rows more)
+
+-- rows that are taken to hold, as a part of a walk
+pub assumed_fits : (rows : List (Result Linear TooLarge)) (ctx : IndexContext) → Fits Anything (by_rule (filled (all_assuming rows ctx)))
+assumed_fits rows ctx = by_rule_fits (filled (all_assuming rows ctx)) (filled_rules (all_assuming rows ctx) (all_assuming_full rows ctx))
 
 -- ---- states whose types are as before: K is what is known of the types
 
 module _ (K : List (ℕ × Ty) → Type 0) where
   pub with_fresh_fits : (count : ℕ) (st : State) → K st.types → Fits (λ more. K more.types) (with_fresh count st)
   unfolding with_fresh
-  with_fresh_fits count st k = then_answers (in_context (fresh_from st.ctx count)) _ (context_fits (fresh_from st.ctx count) (fresh_full st.ctx count)) (λ first u. record { is = k })
+  with_fresh_fits count st k =
+      then_answers (by_rule (filled (widened count st.ctx))) _
+      (by_rule_fits (filled (widened count st.ctx)) (filled_rules (widened count st.ctx) (widened_full count st.ctx))) (λ ctx u. record { is = k })
 
   pub assuming_fits : (rows : List (Result Linear TooLarge)) (st : State) → K st.types → Fits (λ more. K more.types) (assuming rows st)
   unfolding assuming
-  assuming_fits rows st k = then_answers (all_assumed rows st.ctx) _ (all_assumed_fits rows st.ctx) (λ ctx u. record { is = k })
-
-  pub form_fits : (form : Result Linear TooLarge) (st : State) → K st.types → Fits (λ r. K r.1.types) (number form st)
-  unfolding number
-  form_fits (Ok form) st k = record { is = k }
-  form_fits (Err why) st k = then_answers (with_fresh 1 st) _ (with_fresh_fits 1 st k) (λ more m. record { is = m })
+  assuming_fits rows st k = then_answers (by_rule (filled (all_assuming rows st.ctx))) _ (assumed_fits rows st.ctx) (λ ctx u. record { is = k })
 
   pub demanding_keeps : (site : Site) (at : ℕ) (rows : List Linear) (st : State) → K st.types → K (demanding site at rows st).types
   unfolding demanding
@@ -78,12 +76,3 @@ module _ (K : List (ℕ × Ty) → Type 0) where
   pub noting_keeps : (rows : List Linear) (st : State) → K st.types → K (noting_state rows st).types
   unfolding noting_state
   noting_keeps rows st k = k
-
-  pub opened_fits : (ks : List Kind) (packed : Packed) (st : State) → HaveKindsOf ks packed.parts → K st.types → Fits (λ r. HaveKindsOf ks r.0 × K r.1.types) (opened packed st)
-  unfolding opened
-  opened_fits ks packed st kinds k =
-      then_answers (in_context (unpacked st.ctx packed)) _ (context_fits (unpacked st.ctx packed) (unpacked_full ks st.ctx packed kinds)) (λ r h. record { is = (h, k) })
-
-pub first_fits : (k : Kind) (ks : List Kind) (ts : List Ty) → HaveKindsOf (k ∷ ks) ts → Fits (λ t. k ≡ ty_kind t) (first_part ts)
-first_fits k ks [] h = absurd h
-first_fits k ks (t ∷ ts) h = record { is = h.0 }

@@ -1,49 +1,69 @@
 -- A test is stopped by a limit at most, and leaves the types as they are.
-use Rattle.std.proofs.Common.{ℕ, List}
-use Rattle.xan_lin.specs.Linear.{Linear}
+use Rattle.std.proofs.Common.{◌≡◌, ℕ, List, [], ◌∷◌, true, false, None}
 use Rattle.state_types.specs.declared.types.Ty.{Ty}
+use Rattle.operation_rules.specs.Applied.{all_assuming}
+use Rattle.operation_rules.specs.Faults.{filled}
+use Rattle.operation_rules.specs.Rules.{rule}
+use Rattle.operation_rules.specs.Sides.{side}
+use Rattle.operation_rules.specs.declared.operation.Operation.{Operation}
+use Rattle.operation_rules.specs.declared.operation.Operation.TheVariants.{Branch, BranchTruth}
 use Rattle.xanadu_tree.specs.declared.expr.Rel.{Rel}
+use Rattle.xanadu_tree.specs.declared.expr.Rel.TheVariants as rel
 use Rattle.xanadu_tree.specs.declared.types.Kind.TheVariants as kind
 use Rattle.xanadu_tree.specs.KindRules.{Setting, HasKind, IsTest, AreTests}
 use Rattle.xanadu_tree.specs.Plain as core
+use Rattle.typed_core.specs.Constructs.{setting_of, state_by}
+use Rattle.typed_core.specs.Limits.{by_rule}
 use Rattle.typed_core.specs.Operands.{operand}
-use Rattle.typed_core.specs.States.{Site, State, all_assumed, noting_state, as_number, as_truth}
-use Rattle.typed_core.specs.Tests.{Sides, true_rows, false_rows, compared, truth_leaf, leaf, on_side, tested, all_true, all_false}
-use Rattle.typed_core.proofs.Fitting.{Fits, then_answers}
-use Rattle.typed_core.proofs.TypeKinds.{number_fits, truth_fits}
+use Rattle.typed_core.specs.Operators.{comparison_of, in_order}
+use Rattle.typed_core.specs.States.{Site, State, noting_state}
+use Rattle.typed_core.specs.Tests.{Sides, branched, truth_leaf, leaf, on_side, tested, all_true, all_false}
+use Rattle.typed_core.proofs.Fitting.{Fits, Rules, then_answers}
+use Rattle.typed_core.proofs.TypeKinds.{ty_kind}
 use Rattle.typed_core.proofs.KnownTypes.{Knows}
-use Rattle.typed_core.proofs.FitStates.{all_assumed_fits}
+use Rattle.typed_core.proofs.FitStates.{assumed_fits}
+use Rattle.typed_core.proofs.FitRules.{GivesKinds, branch_rules, branch_truth_rules}
+use Rattle.typed_core.proofs.FitConstructs.{state_by_fits}
 use Rattle.typed_core.proofs.FitOperands.{Suits, operand_fits}
-
-compared_fits : (K : List (ℕ × Ty) → Type 0) (rel : Rel) (f g : Linear) (st : State) → K st.types → Fits (λ s. K s.after.types) (compared rel f g st)
-unfolding compared
-compared_fits K rel f g st k =
-    then_answers (all_assumed (true_rows rel f g) st.ctx) _ (all_assumed_fits (true_rows rel f g) st.ctx)
-    (λ one u. then_answers (all_assumed (false_rows rel f g) st.ctx) _ (all_assumed_fits (false_rows rel f g) st.ctx) (λ two v. record { is = k }))
 
 abbrev pub KnowsBehind : Setting → (visible : List ℕ) → Sides → Type 0
 KnowsBehind set visible sides = Knows set.kinds visible sides.after.types
 
 module _ (set : Setting) (site : Site) (suits : Suits set site) (visible : List ℕ) where
+  branched_fits : (o : Operation) (types : List Ty) (st : State) → Rules (GivesKinds []) (rule (setting_of site) o types st.ctx.vars) → Knows set.kinds visible st.types
+      → Fits (KnowsBehind set visible) (branched site o types st)
+  unfolding branched
+  branched_fits o types st ruled knows =
+      then_answers (state_by site None o types st) _ (state_by_fits (Knows set.kinds visible) site None o types st ruled knows)
+      (λ more k. then_answers (by_rule (filled (all_assuming (side true o types) more.ctx))) _ (assumed_fits (side true o types) more.ctx)
+      (λ one u. then_answers (by_rule (filled (all_assuming (side false o types) more.ctx))) _ (assumed_fits (side false o types) more.ctx) (λ two v. record { is = k })))
+
   truth_leaf_fits : (e : core.Expr) (st : State) → HasKind set visible e kind.Bool → Knows set.kinds visible st.types → Fits (KnowsBehind set visible) (truth_leaf site e st)
   unfolding truth_leaf
   truth_leaf_fits e st h knows =
       then_answers (operand site e st) _ (operand_fits set site suits visible e kind.Bool st h knows)
-      (λ r g. then_answers (as_truth r.0) _ (truth_fits r.0 (g.0 tt)) (λ u v. record { is = g.1 }))
+      (λ r g. branched_fits (BranchTruth true) (r.0 ∷ []) r.1 (branch_truth_rules (setting_of site) r.1.ctx.vars true r.0 (g.0 tt)) g.1)
 
-  compare_fits : (rel : Rel) (left right : core.Expr) (st : State) → HasKind set visible left kind.Int → HasKind set visible right kind.Int
-      → Knows set.kinds visible st.types → Fits (KnowsBehind set visible) (leaf site (core.Compare rel left right) st)
+  sides_rules : (r : Rel) (t u : Ty) (first : ℕ) → kind.Int ≡ ty_kind t → kind.Int ≡ ty_kind u
+      → Rules (GivesKinds []) (rule (setting_of site) (Branch (comparison_of r)) (in_order r t u) first)
+  sides_rules rel.Lt t u first h g = branch_rules (setting_of site) first 0 t u h g
+  sides_rules rel.Le t u first h g = branch_rules (setting_of site) first 1 t u h g
+  sides_rules rel.Gt t u first h g = branch_rules (setting_of site) first 0 u t g h
+  sides_rules rel.Ge t u first h g = branch_rules (setting_of site) first 1 u t g h
+  sides_rules rel.Eq t u first h g = branch_rules (setting_of site) first 2 t u h g
+  sides_rules rel.Ne t u first h g = branch_rules (setting_of site) first 3 t u h g
+
+  compare_fits : (r : Rel) (left right : core.Expr) (st : State) → HasKind set visible left kind.Int → HasKind set visible right kind.Int
+      → Knows set.kinds visible st.types → Fits (KnowsBehind set visible) (leaf site (core.Compare r left right) st)
   unfolding leaf
-  compare_fits rel left right st h i knows =
+  compare_fits r left right st h i knows =
       then_answers (operand site left st) _ (operand_fits set site suits visible left kind.Int st h knows)
-      (λ r g. then_answers (as_number r.0) _ (number_fits r.0 (g.0 tt))
-      (λ f u. then_answers (operand site right r.1) _ (operand_fits set site suits visible right kind.Int r.1 i g.1)
-      (λ s l. then_answers (as_number s.0) _ (number_fits s.0 (l.0 tt))
-      (λ e v. compared_fits (Knows set.kinds visible) rel f e s.1 l.1))))
+      (λ p g. then_answers (operand site right p.1) _ (operand_fits set site suits visible right kind.Int p.1 i g.1)
+      (λ q l. branched_fits (Branch (comparison_of r)) (in_order r p.0 q.0) q.1 (sides_rules r p.0 q.0 q.1.ctx.vars (g.0 tt) (l.0 tt)) l.1))
 
   leaf_fits : (e : core.Expr) (st : State) → HasKind set visible e kind.Bool → Knows set.kinds visible st.types → Fits (KnowsBehind set visible) (leaf site e st)
   unfolding leaf HasKind
-  leaf_fits (core.Compare rel left right) st h knows = compare_fits rel left right st h.1 h.2 knows
+  leaf_fits (core.Compare r left right) st h knows = compare_fits r left right st h.1 h.2 knows
   leaf_fits e st h knows = truth_leaf_fits e st h knows
 
   mutual

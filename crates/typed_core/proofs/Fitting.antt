@@ -8,7 +8,11 @@ use Rattle.xan_lin.specs.declared.term.TooLarge.{TooLarge}
 use Rattle.state_types.specs.Answers.{Check, ◌>>=◌}
 use Rattle.state_types.specs.declared.error.StateError.{StateError}
 use Rattle.state_types.specs.declared.error.StateError.TheVariants as state_error
-use Rattle.typed_core.specs.Limits.{Stop, Past, Misfit, Walk, most, within, needed, in_context, met}
+use Rattle.operation_rules.specs.Faults as rules
+use Rattle.operation_rules.specs.Faults.{Ruling}
+use Rattle.operation_rules.specs.declared.error.Fault.{Fault}
+use Rattle.operation_rules.specs.declared.error.Fault.TheVariants.{NoTarget, NoType, NoPlace, WrongCount, WrongKind, Large, Full}
+use Rattle.typed_core.specs.Limits.{Stop, Past, Misfit, Stray, Walk, most, within, needed, in_context, by_rule, held}
 use Rattle.typed_core.specs.States.{there}
 
 -- what is wanted of a value, and of the reason why there is none
@@ -22,10 +26,11 @@ pub record Answers {A E : Type 0} (Q : E → Type 0) (P : A → Type 0) (answer 
 abbrev pub Anything : {A : Type 0} → A → Type 0
 Anything x = Unit {0}
 
--- a limit
+-- no misfit: a limit, or a stray, of which nothing is said here
 abbrev pub IsLimit : Stop → Type 0
 IsLimit (Past kind) = Unit {0}
 IsLimit Misfit = ⊥
+IsLimit Stray = Unit {0}
 
 abbrev pub Fits : {A : Type 0} → (A → Type 0) → Walk A → Type 0
 Fits P answer = Answers IsLimit P answer
@@ -41,6 +46,19 @@ abbrev pub IsLarge : StateError → Type 0
 IsLarge (state_error.Large why) = Unit {0}
 IsLarge (state_error.Kind number) = ⊥
 IsLarge state_error.Memory = ⊥
+
+-- a fault of a rule that is a limit
+abbrev pub IsBound : Fault → Type 0
+IsBound NoTarget = ⊥
+IsBound NoType = ⊥
+IsBound NoPlace = ⊥
+IsBound WrongCount = ⊥
+IsBound WrongKind = ⊥
+IsBound (Large why) = Unit {0}
+IsBound (Full why) = IsFull why
+
+abbrev pub Rules : {A : Type 0} → (A → Type 0) → Ruling A → Type 0
+Rules P answer = Answers IsBound P answer
 
 -- ---- chains
 
@@ -71,14 +89,42 @@ module _ {A : Type 0} {P : A → Type 0} where
   context_fits (Err context_error.Rows) h = record { is = tt }
   context_fits (Err context_error.Memory) h = absurd h.is
 
-  pub met_fits : (m : Check A) → Answers IsLarge P m → Fits P (met m)
-  met_fits (Ok x) h = record { is = h.is }
-  met_fits (Err (state_error.Large why)) h = record { is = tt }
-  met_fits (Err (state_error.Kind number)) h = absurd h.is
-  met_fits (Err state_error.Memory) h = absurd h.is
+  pub filled_rules : (m : Result A ContextError) → Answers IsFull P m → Rules P (rules.filled m)
+  filled_rules (Ok x) h = record { is = h.is }
+  filled_rules (Err why) h = record { is = h.is }
+
+  pub needed_rules : (m : Result A TooLarge) → Answers Anything P m → Rules P (rules.needed m)
+  needed_rules (Ok x) h = record { is = h.is }
+  needed_rules (Err why) h = record { is = tt }
+
+  pub match_rules : (m : Check A) → Answers IsLarge P m → Rules P (rules.of_match m)
+  match_rules (Ok x) h = record { is = h.is }
+  match_rules (Err (state_error.Large why)) h = record { is = tt }
+  match_rules (Err (state_error.Kind number)) h = absurd h.is
+  match_rules (Err state_error.Memory) h = absurd h.is
+
+  pub or_rules : (fault : Fault) (o : Option A) (x : A) → o ≡ Some x → P x → Rules P (rules.or_fault fault o)
+  or_rules fault o x e p = subst (λ q. Rules P (rules.or_fault fault q)) (sym e) (record { is = p })
+
+  -- a rule as a part of a walk
+  pub by_rule_fits : (m : Ruling A) → Rules P m → Fits P (by_rule m)
+  by_rule_fits (Ok x) h = record { is = h.is }
+  by_rule_fits (Err NoTarget) h = absurd h.is
+  by_rule_fits (Err NoType) h = absurd h.is
+  by_rule_fits (Err NoPlace) h = absurd h.is
+  by_rule_fits (Err WrongCount) h = absurd h.is
+  by_rule_fits (Err WrongKind) h = absurd h.is
+  by_rule_fits (Err (Large why)) h = record { is = tt }
+  by_rule_fits (Err (Full context_error.Variables)) h = record { is = tt }
+  by_rule_fits (Err (Full context_error.Rows)) h = record { is = tt }
+  by_rule_fits (Err (Full context_error.Memory)) h = absurd h.is
 
   pub there_fits : (o : Option A) (x : A) → o ≡ Some x → P x → Fits P (there o)
   there_fits o x e p = subst (λ q. Fits P (there q)) (sym e) (record { is = p })
+
+pub held_fits : (b : Truth) → Fits Anything (held b)
+held_fits true = record { is = tt }
+held_fits false = record { is = tt }
 
 within_by : (b : Truth) (kind : LimitKind) → Fits Anything (let r : Walk (Unit {0}) = cond b (Err (Past kind)) (Ok tt) in r)
 within_by true kind = record { is = tt }

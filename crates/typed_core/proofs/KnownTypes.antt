@@ -1,5 +1,5 @@
 -- The types that are known of the visible variables, and what keeps them.
-use Rattle.std.proofs.Common.{◌≡◌, ℕ, ◌+◌, List, [], ◌∷◌, ◌++◌, ◌==◌, nat_lt, length, Bool as Truth, true, false, cond, Option, Some, None, Ok, Err, refl, sym, ap, subst, ◌∙◌, inl, inr, eq-eqb}
+use Rattle.std.proofs.Common.{◌≡◌, ℕ, suc, ◌+◌, List, [], ◌∷◌, ◌++◌, ◌==◌, nat_lt, length, Bool as Truth, true, false, cond, Option, Some, None, Ok, Err, refl, sym, ap, subst, ◌∙◌, inl, inr, eq-eqb}
 use Rattle.std.specs.Prelude.{◌⊎◌, slice_get, ◌&&◌, not}
 use Rattle.std.specs.List.{AllByRecursion}
 use Rattle.std.proofs.lemmas.Bool.{eqb-true}
@@ -15,9 +15,10 @@ use Rattle.xanadu_tree.specs.declared.types.Kind.{Kind}
 use Rattle.xanadu_tree.specs.declared.types.Kind.TheVariants as kind
 use Rattle.xanadu_tree.specs.KindRules.{IsAmong}
 use Rattle.typed_core.specs.Joins.{with_index, Renewed, has_index, is_named, is_renewed, with_entry, renewed, with_types, type_or, still_visible}
-use Rattle.typed_core.specs.Limits.{Walk, Misfit}
+use Rattle.xan_lin.specs.declared.term.LimitKind.TheVariants as limit
+use Rattle.typed_core.specs.Limits.{Walk, Misfit, within}
 use Rattle.typed_core.specs.States.{State, like, given}
-use Rattle.typed_core.proofs.Fitting.{Fits, then_answers}
+use Rattle.typed_core.proofs.Fitting.{Fits, then_answers, within_fits}
 use Rattle.typed_core.proofs.TypeKinds.{ty_kind, some_kind, like_kinds}
 
 -- ---- lists of types
@@ -157,8 +158,9 @@ pub given_fits : (kinds : List Kind) (visible : List ℕ) (x : ℕ) (t : Ty) (st
     → Fits (λ more. Knows kinds (x ∷ visible) more.types) (given x t st)
 unfolding given
 given_fits kinds visible x t st knows e =
-    then_answers (like (type_at x st.types) t) _ (like_fits kinds visible st.types x t (type_at x st.types) knows e refl)
-    (λ u same. record { is = subst (λ v. Knows kinds (x ∷ visible) (with_type x v st.types)) same (knows_with kinds visible st.types x t knows e) })
+    then_answers (within limit.Places (suc x)) _ (within_fits limit.Places (suc x))
+    (λ few v. then_answers (like (type_at x st.types) t) _ (like_fits kinds visible st.types x t (type_at x st.types) knows e refl)
+    (λ u same. record { is = subst (λ v. Knows kinds (x ∷ visible) (with_type x v st.types)) same (knows_with kinds visible st.types x t knows e) }))
 
 -- ---- the end of a block
 

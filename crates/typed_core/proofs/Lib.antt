@@ -1,10 +1,12 @@
-mod Sources
+pub mod Sources
 mod Examples
 pub mod Fitting
 pub mod TypeKinds
 pub mod FitMatches
 pub mod KnownTypes
 pub mod FitStates
+pub mod FitRules
+pub mod FitConstructs
 pub mod FitOperands
 pub mod FitTests
 pub mod FitJoins

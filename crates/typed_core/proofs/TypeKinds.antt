@@ -1,5 +1,5 @@
 -- The kinds of types of a state, and what a type of a kind answers.
-use Rattle.std.proofs.Common.{◌≡◌, ℕ, List, [], ◌∷◌, ◌++◌, length, map, true, Option, Some, refl, sym, ap, subst, ◌∙◌, arith, eq-eqb}
+use Rattle.std.proofs.Common.{◌≡◌, ℕ, List, [], ◌∷◌, ◌++◌, ◌==◌, length, Bool as Truth, true, false, cond, Option, Some, Ok, Err, refl, sym, ap, subst, ◌∙◌, arith, eq-eqb}
 use Rattle.xan_lin.specs.Linear.{Linear}
 use Rattle.xan_lin.specs.Subst.{subst_of}
 use Rattle.state_types.specs.Types.{same_kind, subst_ty}
@@ -12,8 +12,12 @@ use Rattle.xanadu_tree.specs.declared.types.Kind.{Kind}
 use Rattle.xanadu_tree.specs.declared.types.Kind.TheVariants as kind
 use Rattle.xanadu_tree.specs.KindRules.{kind_of, IsValue}
 use Rattle.typed_core.specs.Forms.{form_of, type_of, renamed_type}
-use Rattle.typed_core.specs.States.{as_number, as_truth, as_array, as_tuple}
-use Rattle.typed_core.proofs.Fitting.{Answers, Anything, Fits, then_answers, any_answer}
+use Rattle.operation_rules.specs.Faults.{Ruling}
+use Rattle.operation_rules.specs.declared.error.Fault.TheVariants.{WrongKind}
+use Rattle.operation_rules.specs.Rules as rules
+use Rattle.operation_rules.specs.Rules.{as_number, as_truth, as_array}
+use Rattle.typed_core.specs.States.{as_tuple}
+use Rattle.typed_core.proofs.Fitting.{Answers, Anything, Fits, Rules, then_answers, any_answer}
 
 abbrev pub ty_kind : Ty → Kind
 ty_kind (ty.Int e) = kind.Int
@@ -81,23 +85,33 @@ like_kinds _ _ h = absurd (cc)
 
 -- ---- looking at a type
 
-pub number_fits : (t : Ty) → kind.Int ≡ ty_kind t → Fits Anything (as_number t)
-number_fits (ty.Int e) h = record { is = tt }
-number_fits ty.Bool h = absurd (cc)
-number_fits (ty.Array number e) h = absurd (cc)
-number_fits (ty.Named number) h = absurd (cc)
+pub number_rules : (t : Ty) → kind.Int ≡ ty_kind t → Rules Anything (as_number t)
+number_rules (ty.Int e) h = record { is = tt }
+number_rules ty.Bool h = absurd (cc)
+number_rules (ty.Array number e) h = absurd (cc)
+number_rules (ty.Named number) h = absurd (cc)
 
-pub truth_fits : (t : Ty) → kind.Bool ≡ ty_kind t → Fits Anything (as_truth t)
-truth_fits (ty.Int e) h = absurd (cc)
-truth_fits ty.Bool h = record { is = tt }
-truth_fits (ty.Array number e) h = absurd (cc)
-truth_fits (ty.Named number) h = absurd (cc)
+pub truth_rules : (t : Ty) → kind.Bool ≡ ty_kind t → Rules Anything (as_truth t)
+truth_rules (ty.Int e) h = absurd (cc)
+truth_rules ty.Bool h = record { is = tt }
+truth_rules (ty.Array number e) h = absurd (cc)
+truth_rules (ty.Named number) h = absurd (cc)
 
-pub array_fits : (element : ℕ) (t : Ty) → kind.Array element ≡ ty_kind t → Fits (λ r. element ≡ r.0) (as_array t)
-array_fits element (ty.Int e) h = absurd (cc)
-array_fits element ty.Bool h = absurd (cc)
-array_fits element (ty.Array number e) h = record { is = same_element element number h }
-array_fits element (ty.Named number) h = absurd (cc)
+pub array_rules : (element : ℕ) (t : Ty) → kind.Array element ≡ ty_kind t → Rules (λ r. element ≡ r.0) (as_array t)
+array_rules element (ty.Int e) h = absurd (cc)
+array_rules element ty.Bool h = absurd (cc)
+array_rules element (ty.Array number e) h = record { is = same_element element number h }
+array_rules element (ty.Named number) h = absurd (cc)
+
+tuple_by : (b : Truth) → b ≡ true → Rules Anything (let r : Ruling (Unit {0}) = cond b (Ok tt) (Err WrongKind) in r)
+tuple_by true e = record { is = tt }
+tuple_by false e = absurd (cc)
+
+pub tuple_rules : (number : ℕ) (t : Ty) → kind.Named number ≡ ty_kind t → Rules Anything (rules.as_tuple number t)
+tuple_rules number (ty.Int e) h = absurd (cc)
+tuple_rules number ty.Bool h = absurd (cc)
+tuple_rules number (ty.Array n e) h = absurd (cc)
+tuple_rules number (ty.Named n) h = tuple_by (number == n) (eq-eqb number n (same_tuple number n h))
 
 pub tuple_fits : (number : ℕ) (t : Ty) → kind.Named number ≡ ty_kind t → Fits (λ n. number ≡ n) (as_tuple t)
 tuple_fits number (ty.Int e) h = absurd (cc)
@@ -126,17 +140,11 @@ unfolding renamed_type
 renamed_kind naming own t =
     then_answers (type_of t) _ (type_kind t) (λ u h. subst (λ k. Answers Anything (λ v. k ≡ ty_kind v) (subst_ty naming own u)) (sym h) (subst_kind naming own u))
 
-shifted_kind : (first : ℕ) (t : Ty) → ty_kind t ≡ ty_kind (shifted_type first t)
+pub shifted_kind : (first : ℕ) (t : Ty) → ty_kind t ≡ ty_kind (shifted_type first t)
 shifted_kind first (ty.Int e) = refl
 shifted_kind first ty.Bool = refl
 shifted_kind first (ty.Array number e) = refl
 shifted_kind first (ty.Named number) = refl
-
-pub shifted_kinds : (first : ℕ) (ks : List Kind) (ts : List Ty) → HaveKindsOf ks ts → HaveKindsOf ks (map (shifted_type first) ts)
-shifted_kinds first [] [] h = tt
-shifted_kinds first [] (t ∷ ts) h = absurd h
-shifted_kinds first (k ∷ ks) [] h = absurd h
-shifted_kinds first (k ∷ ks) (t ∷ ts) h = (h.0 ∙ shifted_kind first t, shifted_kinds first ks ts h.1)
 
 -- ---- as many
 

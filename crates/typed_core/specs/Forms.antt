@@ -1,6 +1,6 @@
 -- Forms and types of a core, whose numbers are of any size, as those within the bounds.
-use Rattle.std.specs.Prelude.{ℕ, zero, suc, ℤ, List, [], ◌∷◌, ◌++◌, map, Option, Some, None, Result, Ok}
-use Rattle.xan_lin.specs.Linear.{Linear, sized, variable_form}
+use Rattle.std.specs.Prelude.{ℕ, ℤ, List, [], ◌∷◌, ◌++◌, map, Result, Ok}
+use Rattle.xan_lin.specs.Linear.{Linear, sized}
 use Rattle.xan_lin.specs.Subst.{subst_of}
 use Rattle.xan_lin.specs.declared.term.Term.{Term}
 use Rattle.xan_lin.specs.declared.term.TooLarge.{TooLarge}
@@ -11,7 +11,8 @@ use Rattle.state_types.specs.declared.types.Ty.TheVariants as ty
 use Rattle.xanadu_tree.specs.declared.linear.Linear.{Linear as Exact}
 use Rattle.xanadu_tree.specs.declared.types.CoreTy.{CoreTy}
 use Rattle.xanadu_tree.specs.declared.types.CoreTy.TheVariants as core_ty
-use Rattle.typed_core.specs.Limits.{Walk, needed}
+use Rattle.typed_core.specs.Limits.{Walk, needed, held}
+use Rattle.typed_core.specs.Strays.{form_rises, type_rises}
 
 abbrev pub term_of : ℤ × ℕ → Term
 term_of t = record { var = t.1; coef = t.0 }
@@ -35,12 +36,14 @@ type_of (core_ty.Named number) = Ok (ty.Named number)
 unfoldable pub forms_from : List Exact → List Linear → Walk (List Linear)
 forms_from [] made = Ok made
 forms_from (form ∷ forms) made = do
+  rises ← held (form_rises form)
   one ← needed (form_of form)
   forms_from forms (made ++ one ∷ [])
 
 unfoldable pub types_from : List CoreTy → List Ty → Walk (List Ty)
 types_from [] made = Ok made
 types_from (t ∷ ts) made = do
+  rises ← held (type_rises t)
   one ← needed (type_of t)
   types_from ts (made ++ one ∷ [])
 
@@ -55,21 +58,3 @@ unfoldable pub renamed_type : (naming : List (ℕ × Linear)) → (own : ℕ) �
 renamed_type naming own t = do
   exact ← type_of t
   subst_ty naming own exact
-
--- so many numbers from `number` on, each of which means the variable from `first` on in its turn
-unfoldable pub variables_from : (number first count : ℕ) → List (ℕ × Linear)
-variables_from number first zero = []
-variables_from number first (suc count) = (number, variable_form first) ∷ variables_from (suc number) (suc first) count
-
--- ---- forms that rules make
-
-abbrev pub constant_form : ℤ → Linear
-constant_form n = record { terms = []; constant = n }
-
--- the number that a form is, where it has no variable
-abbrev pub number_of : Linear → Option ℤ
-number_of form = number_with form.terms form.constant
-  where
-    number_with : List Term → ℤ → Option ℤ
-    number_with [] n = Some n
-    number_with (t ∷ ts) n = None

@@ -1,6 +1,6 @@
 -- The goals of a core, with all that elaboration makes; or the first limit.
-use Rattle.std.specs.Prelude.{ℕ, suc, List, [], ◌∷◌, slice_get, Ok}
-use Rattle.std.specs.List.{enumerate_from}
+use Rattle.std.specs.Prelude.{ℕ, suc, List, [], ◌∷◌, length, slice_get, Ok}
+use Rattle.std.specs.List.{enumerate_from, list_all}
 use Rattle.xan_lin.specs.declared.term.LimitKind.TheVariants as limit
 use Rattle.state_types.specs.Answers.{◌>>=◌}
 use Rattle.state_types.specs.Unpacking.{with_rows}
@@ -10,10 +10,11 @@ use Rattle.xanadu_tree.specs.Plain as core
 use Rattle.typed_core.specs.declared.goal.GoalAt.{GoalAt}
 use Rattle.typed_core.specs.declared.note.Note.{Note}
 use Rattle.typed_core.specs.Headers.{few_declarations, table_of, signatures}
-use Rattle.typed_core.specs.Limits.{Walk, within, in_context}
+use Rattle.typed_core.specs.Limits.{Walk, within, in_context, held}
 use Rattle.typed_core.specs.Places.{places_of}
 use Rattle.typed_core.specs.States.{State, there}
 use Rattle.typed_core.specs.Statements.{block}
+use Rattle.typed_core.specs.Strays.{form_below}
 
 -- what elaboration makes of a core
 pub record Elaboration : Type 0 where
@@ -27,6 +28,8 @@ pub record Elaboration : Type 0 where
 -- a body begins with the variables and the rows of its function, and its parameters have their types
 unfoldable pub body_start : Signature → List GoalAt → List Note → Walk State
 body_start sig goals notes = do
+  few ← within limit.Parameters (length sig.params)
+  named ← held (list_all (form_below sig.vars) sig.rows)
   ctx ← in_context (with_rows (record { vars = sig.vars; rows = [] }) sig.rows)
   Ok (record { ctx = ctx; types = enumerate_from 0 sig.params; naming = []; goals = goals; notes = notes })
 

@@ -1,14 +1,18 @@
 -- The closed types and the signatures of a program, and the limits of its declarations.
-use Rattle.std.specs.Prelude.{◌+◌, List, [], ◌∷◌, ◌++◌, length, Ok}
+use Rattle.std.specs.Prelude.{◌+◌, ◌≤◌, List, [], ◌∷◌, ◌++◌, length, Ok}
+use Rattle.std.specs.List.{All}
 use Rattle.xan_lin.specs.declared.term.LimitKind.TheVariants as limit
 use Rattle.state_types.specs.Answers.{◌>>=◌}
-use Rattle.state_types.specs.Tables.{int_cell, bool_cell}
+use Rattle.state_types.specs.Tables.{IsClosed, int_cell, bool_cell}
 use Rattle.state_types.specs.declared.closed.Packed.{Packed}
 use Rattle.state_types.specs.declared.closed.Signature.{Signature}
+use Rattle.operation_rules.specs.Settings.{IsFew}
+use Rattle.operation_rules.specs.Sound.{IsHeader}
 use Rattle.xanadu_tree.specs.declared.types.Packing.{Packing}
 use Rattle.xanadu_tree.specs.Plain as core
 use Rattle.typed_core.specs.Forms.{type_of, forms_from, types_from}
-use Rattle.typed_core.specs.Limits.{Walk, within, needed}
+use Rattle.typed_core.specs.Limits.{Walk, within, needed, held}
+use Rattle.typed_core.specs.Strays.{type_rises, is_closed}
 
 -- ---- how many there are
 
@@ -34,14 +38,16 @@ few_declarations program = do
 
 -- ---- types
 
--- its forms, as the text has them: rows and then parts; then how many variables and rows it has
+-- its forms, as the text has them: rows and then parts; then how many variables and rows it has; and they name its own variables
 unfoldable pub closed_type : Packing → Walk Packed
 closed_type packing = do
   rows ← forms_from packing.quant.rows []
   parts ← types_from packing.parts []
   few_variables ← within limit.Variables packing.quant.count
   few_rows ← within limit.Rows (length packing.quant.rows)
-  Ok (record { vars = packing.quant.count; rows = rows; parts = parts; tuple = packing.tuple })
+  let made : Packed = record { vars = packing.quant.count; rows = rows; parts = parts; tuple = packing.tuple }
+  closed ← held (is_closed made)
+  Ok made
 
 -- behind those made so far
 unfoldable pub closed_types : List Packing → List Packed → Walk (List Packed)
@@ -62,6 +68,7 @@ signature f = do
   rows ← forms_from f.quant.rows []
   params ← types_from f.params []
   result_rows ← forms_from f.result_quant.rows []
+  rises ← held (type_rises f.result)
   result ← needed (type_of f.result)
   few_variables ← within limit.Variables (f.quant.count + f.result_quant.count)
   few_rows ← within limit.Rows (length f.quant.rows)
@@ -80,3 +87,12 @@ signatures [] made = Ok made
 signatures (f ∷ fs) made = do
   one ← signature f
   signatures fs (made ++ one ∷ [])
+
+-- ---- what is known of them, where the core keeps the rules of a core
+
+-- types and signatures name only their own variables, which are no more than a context can have
+pub record AreDeclared (table : List Packed) (sigs : List Signature) : Type 0 where
+  pub closed : All IsClosed table
+  pub few : All (λ packed. packed.vars ≤ 1024) table
+  pub headers : All IsHeader sigs
+  pub signed : All IsFew sigs

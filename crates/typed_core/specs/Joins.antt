@@ -1,20 +1,25 @@
 -- Where control flow meets: the state that is stated there, and the ways into it.
 use Rattle.std.specs.Prelude.{ℕ, suc, ◌+◌, Bool as Truth, true, false, not, ◌&&◌, ◌||◌, ◌==◌, List, [], ◌∷◌, ◌++◌, map, length, Option, Some, None, Result, Ok, Err}
-use Rattle.std.specs.List.{list_any}
+use Rattle.std.specs.List.{list_all, list_any}
 use Rattle.xan_lin.specs.Linear.{Linear, variable_form}
+use Rattle.xan_lin.specs.declared.term.LimitKind.TheVariants as limit
 use Rattle.xan_lin.specs.declared.term.TooLarge.{TooLarge}
 use Rattle.state_types.specs.Answers.{◌>>=◌}
 use Rattle.state_types.specs.PlaceTypes.{type_at, with_type}
 use Rattle.state_types.specs.Types.{index_of}
+use Rattle.state_types.specs.declared.matching.Found.{Found}
+use Rattle.state_types.specs.declared.state.StateType.{StateType}
 use Rattle.state_types.specs.declared.types.Ty.{Ty}
 use Rattle.state_types.specs.declared.types.Ty.TheVariants as ty
+use Rattle.operation_rules.specs.Forms.{variables_from}
 use Rattle.xanadu_tree.specs.declared.stmt.Clause.{Clause}
 use Rattle.xanadu_tree.specs.declared.types.CoreTy.{CoreTy}
 use Rattle.xanadu_tree.specs.Plain as core
 use Rattle.typed_core.specs.declared.note.Note.TheVariants as note
-use Rattle.typed_core.specs.Forms.{renamed, renamed_type, variables_from}
-use Rattle.typed_core.specs.Limits.{Walk, needed}
+use Rattle.typed_core.specs.Forms.{renamed, renamed_type}
+use Rattle.typed_core.specs.Limits.{Walk, within, needed, held}
 use Rattle.typed_core.specs.States.{Site, State, resuming, with_fresh, assuming, all_asked, none_asked, noting, noting_state, there, matching}
+use Rattle.typed_core.specs.Strays.{clause_rises, values_rise, row_below}
 
 -- ---- which variables a block changes: it assigns them, or a clause within it gives them another type
 
@@ -84,10 +89,18 @@ renewed changed vars first [] made = made
 renewed changed vars first (entry ∷ entries) made =
     renewed changed vars first entries (with_entry (is_renewed changed vars entry) first entry made)
 
--- the types that a clause states, over the variables of the state
+-- each variable has a place of its own, so that they are few
+unfoldable pub few_places : List (ℕ × Ty) → Walk (Unit {0})
+few_places [] = Ok tt
+few_places (entry ∷ entries) = do
+  few ← within limit.Places (suc entry.0)
+  few_places entries
+
+-- the types that a clause states, over the variables of the state, of variables that have places
 unfoldable pub stated_types : (naming : List (ℕ × Linear)) → (own : ℕ) → List (ℕ × CoreTy) → List (ℕ × Ty) → Walk (List (ℕ × Ty))
 stated_types naming own [] made = Ok made
 stated_types naming own (s ∷ ss) made = do
+  few ← within limit.Places (suc s.0)
   it ← needed (renamed_type naming own s.1)
   stated_types naming own ss (made ++ (s.0, it) ∷ [])
 
@@ -116,22 +129,42 @@ pub record Joint : Type 0 where
   pub past : Option TooLarge
   pub others : List ℕ
 
--- The state that a clause and the changed variables make of the rows and types before, over all index variables so far. Fresh
--- variables come first, those of the clause and then one for each other changed variable; then the clause's rows, of which
--- those past the bounds are left out; then its types. Other variables keep their types.
-unfoldable pub joined : Site → Clause → (changed : ℕ → Truth) → (before latest : State) → Walk (Joint × State)
+-- The types before, in which changed variables have fresh indices, and the state with the rows and types before and with all fresh variables:
+-- those of the clause, and then one for each other changed variable.
+unfoldable pub renewing : Clause → (changed : ℕ → Truth) → (before : StateType) → (latest : State) → Walk (Renewed × State)
+renewing clause changed before latest = do
+  few ← few_places before.places
+  let kept = renewed changed clause.vars (latest.ctx.vars + clause.quant.count) before.places (record { types = []; others = [] })
+  fresh ← with_fresh (clause.quant.count + length kept.others) (resuming before.ctx.rows before.places latest)
+  Ok (kept, fresh)
+
+-- A clause's rows over the variables of the state, and the state in which they are taken to hold, but for those past the bounds.
+unfoldable pub stating : (naming : List (ℕ × Linear)) → (own : ℕ) → Clause → State → Walk (List (Result Linear TooLarge) × State)
+stating naming own clause st = do
+  listed ← held (values_rise 0 naming)
+  rises ← held (clause_rises clause)
+  let rows = map (renamed naming own) clause.quant.rows
+  named ← held (list_all (row_below st.ctx.vars) rows)
+  known ← assuming rows st
+  Ok (rows, known)
+
+-- the clause's index variables have become these
+abbrev pub naming_more : List (ℕ × Linear) → State → State
+naming_more more st = record st { naming = st.naming ++ more }
+
+-- The state that a clause and the changed variables make of the rows and types before, over all index variables so far: fresh variables
+-- come first, then the clause's rows, and then its types. Other variables keep their types.
+unfoldable pub joined : Site → Clause → (changed : ℕ → Truth) → (before : StateType) → (latest : State) → Walk (Joint × State)
 joined site clause changed before latest = do
   let first = latest.ctx.vars
   let count = clause.quant.count
-  let kept = renewed changed clause.vars (first + count) before.types (record { types = []; others = [] })
-  fresh ← with_fresh (count + length kept.others) (resuming before.ctx.rows before.types latest)
-  let naming = latest.naming ++ variables_from clause.first first count
-  let rows = map (renamed naming site.own.vars) clause.quant.rows
-  known ← assuming rows fresh
-  wanted ← stated_types naming site.own.vars clause.vars []
+  (kept, fresh) ← renewing clause changed before latest
+  let begun = naming_more (variables_from clause.first first count) fresh
+  (rows, known) ← stating begun.naming site.own.vars clause begun
+  wanted ← stated_types known.naming site.own.vars clause.vars []
   Ok (
     record { first = first; count = count; wanted = wanted; rows = leading rows; past = first_past rows; others = kept.others },
-    noting_state known.ctx.rows (record known { types = with_types wanted kept.types; naming = naming }),
+    noting_state known.ctx.rows (record known { types = with_types wanted kept.types }),
   )
 
 -- ---- the ways into it
@@ -160,18 +193,24 @@ values_at types next (x ∷ xs) made = do
   form ← index_at types x
   values_at types (suc next) xs (made ++ (next, form) ∷ [])
 
--- A way in from a state. Its goals stand in the context there.
-unfoldable pub entered : Site → (at : ℕ) → Joint → (from st : State) → Walk State
-entered site at joint from st = do
-  actual ← present from.types joint.wanted []
+-- the present types of the variables that the clause names, and the match of the stated types with them
+unfoldable pub met_there : Joint → List (ℕ × Ty) → Walk (List Ty × Found)
+met_there joint types = do
+  actual ← present types joint.wanted []
   found ← matching joint.first (joint.first + joint.count) joint.rows (map (λ w. w.1) joint.wanted) actual
+  Ok (actual, found)
+
+-- A way in from what is known somewhere. Its goals stand in the context there.
+unfoldable pub entered : Site → (at : ℕ) → Joint → (from : StateType) → State → Walk State
+entered site at joint from st = do
+  (actual, found) ← met_there joint from.places
   bounded ← within_bounds joint.past
-  values ← values_at from.types (joint.first + joint.count) joint.others found.values
+  values ← values_at from.places (joint.first + joint.count) joint.others found.values
   let made = all_asked site at from.ctx found.rows (none_asked st)
-  Ok (noting made.goals (note.Edge values made.numbers) st)
+  Ok (noting made.goals (note.Edge values actual made.numbers) st)
 
 -- a branch that completes is a way in
-unfoldable pub entered_if : (completes : Truth) → Site → (at : ℕ) → Joint → (from st : State) → Walk State
+unfoldable pub entered_if : (completes : Truth) → Site → (at : ℕ) → Joint → (from : StateType) → State → Walk State
 entered_if false site at joint from st = Ok st
 entered_if true site at joint from st = entered site at joint from st
 

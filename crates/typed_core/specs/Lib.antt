@@ -1,8 +1,11 @@
 pub mod Limits
+pub mod Strays
 pub mod Forms
 pub mod Places
 pub mod Headers
 pub mod States
+pub mod Operators
+pub mod Constructs
 pub mod Operands
 pub mod Tests
 pub mod Joins

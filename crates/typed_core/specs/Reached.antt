@@ -8,7 +8,7 @@ use Rattle.typed_core.specs.declared.note.Note.{Note}
 use Rattle.typed_core.specs.Goals.{body_start}
 use Rattle.typed_core.specs.Headers.{table_of, signatures}
 use Rattle.typed_core.specs.Joins.{Joint, changes_any, stated, joined, entered}
-use Rattle.typed_core.specs.States.{Site, State}
+use Rattle.typed_core.specs.States.{Site, State, point}
 use Rattle.typed_core.specs.Statements.{statement, block, other_branch}
 use Rattle.typed_core.specs.Tests.{Sides, tested, on_side}
 
@@ -34,7 +34,7 @@ unfoldable mutual
       × StandsIn site on_false (other_branch sides.on_false st one) reached there))
   StandsWithin site (core.While test head body at) st reached there =
       (joint : Joint) × (start : State) × (begun : State) × (sides : Sides)
-      × (joined site (stated head) (changes_any body) st st ≡ Ok (joint, start)) × (entered site at joint st start ≡ Ok begun)
+      × (joined site (stated head) (changes_any body) (point st) st ≡ Ok (joint, start)) × (entered site at joint (point st) start ≡ Ok begun)
       × (tested site test begun ≡ Ok sides) × StandsIn site body (on_side sides.on_true sides.after) reached there
   StandsWithin site (core.Return value at) st reached there = ⊥
 

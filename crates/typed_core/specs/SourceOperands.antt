@@ -9,15 +9,9 @@ use Rattle.xanadu_tree.specs.declared.expr.Op.TheVariants as op
 use Rattle.xanadu_tree.specs.declared.expr.Rel.{Rel}
 use Rattle.xanadu_tree.specs.declared.expr.Rel.TheVariants as rel
 use Rattle.xanadu_tree.specs.Plain as core
+use Rattle.typed_core.specs.Operators.{operation_of}
 use Rattle.typed_core.specs.SourceValues.{Tag, Number, Truth, Array, Tuple, Value, Blocks, number, words_of, have_tags, tag_at, separate, cell_tag}
 use Rattle.typed_core.specs.SourceRuns.{Run, Answer, Env, Calls, stuck, one_of}
-
-abbrev pub operation_of : Op → Operation
-operation_of op.Add = operation.Add
-operation_of op.Sub = operation.Sub
-operation_of op.Mul = operation.Mul
-operation_of op.Div = operation.Div
-operation_of op.Mod = operation.Mod
 
 -- where no block is made
 abbrev pub no_cells : ℕ → Tag

@@ -1,23 +1,26 @@
 -- What is known at a place of a function's body, and how elaboration goes from one such state to the next.
-use Rattle.std.specs.Prelude.{ℕ, Bool as Truth, true, false, List, [], ◌∷◌, ◌++◌, length, slice_get, Option, Some, None, Result, Ok, Err, ◌==◌, if◌then◌else◌}
-use Rattle.index_sorts.specs.Context.{IndexContext, fresh_from, with_variables}
-use Rattle.index_sorts.specs.Known.{knows, with_row}
-use Rattle.xan_lin.specs.Linear.{Linear, variable_form}
+use Rattle.std.specs.Prelude.{ℕ, suc, Bool as Truth, true, false, List, [], ◌∷◌, ◌++◌, length, Option, Some, None, Result, Ok, Err, if◌then◌else◌}
+use Rattle.index_sorts.specs.Context.{IndexContext}
+use Rattle.index_sorts.specs.Known.{knows}
+use Rattle.xan_lin.specs.Linear.{Linear}
+use Rattle.xan_lin.specs.declared.term.LimitKind.TheVariants as limit
 use Rattle.xan_lin.specs.declared.term.TooLarge.{TooLarge}
 use Rattle.state_types.specs.Answers.{◌>>=◌}
-use Rattle.state_types.specs.Matching.{matched}
 use Rattle.state_types.specs.PlaceTypes.{type_at, with_type}
 use Rattle.state_types.specs.Types.{same_kind}
-use Rattle.state_types.specs.Unpacking.{unpacked}
 use Rattle.state_types.specs.declared.closed.Packed.{Packed}
 use Rattle.state_types.specs.declared.closed.Signature.{Signature}
 use Rattle.state_types.specs.declared.matching.Found.{Found}
+use Rattle.state_types.specs.declared.state.StateType.{StateType}
 use Rattle.state_types.specs.declared.types.Ty.{Ty}
 use Rattle.state_types.specs.declared.types.Ty.TheVariants as ty
+use Rattle.operation_rules.specs.Applied.{widened, all_assuming}
+use Rattle.operation_rules.specs.Faults.{filled}
+use Rattle.operation_rules.specs.Rules as rules
 use Rattle.typed_core.specs.declared.goal.GoalAt.{GoalAt}
 use Rattle.typed_core.specs.declared.note.Note.{Note}
 use Rattle.typed_core.specs.declared.note.Note.TheVariants as note
-use Rattle.typed_core.specs.Limits.{Walk, Misfit, in_context, met}
+use Rattle.typed_core.specs.Limits.{Walk, Misfit, within, by_rule}
 
 -- what stands throughout a body: the closed types, the signatures, and the function's number and signature
 pub record Site : Type 0 where
@@ -39,6 +42,10 @@ pub record State : Type 0 where
 abbrev pub in_ctx : IndexContext → State → State
 in_ctx ctx st = record st { ctx = ctx }
 
+-- what is known there: the rows and the types
+abbrev pub point : State → StateType
+point st = record { ctx = st.ctx; places = st.types }
+
 -- what holds where control comes by another way: these rows and types, over all index variables so far
 abbrev pub resuming : List Linear → List (ℕ × Ty) → State → State
 resuming rows types st = record st { ctx = record { vars = st.ctx.vars; rows = rows }; types = types }
@@ -47,31 +54,14 @@ resuming rows types st = record st { ctx = record { vars = st.ctx.vars; rows = r
 
 unfoldable pub with_fresh : ℕ → State → Walk State
 with_fresh count st = do
-  first ← in_context (fresh_from st.ctx count)
-  Ok (in_ctx (with_variables st.ctx count) st)
-
--- a hypothesis, which is left out where it is past the bounds or known
-abbrev pub assumed : Result Linear TooLarge → IndexContext → Walk IndexContext
-assumed (Ok row) ctx = in_context (with_row ctx row)
-assumed (Err why) ctx = Ok ctx
-
-unfoldable pub all_assumed : List (Result Linear TooLarge) → IndexContext → Walk IndexContext
-all_assumed [] ctx = Ok ctx
-all_assumed (row ∷ rows) ctx = do
-  more ← assumed row ctx
-  all_assumed rows more
-
-unfoldable pub assuming : List (Result Linear TooLarge) → State → Walk State
-assuming rows st = do
-  ctx ← all_assumed rows st.ctx
+  ctx ← by_rule (filled (widened count st.ctx))
   Ok (in_ctx ctx st)
 
--- the number that a form is, or one of which nothing is known where the form is past the bounds
-unfoldable pub number : Result Linear TooLarge → State → Walk (Linear × State)
-number (Ok form) st = Ok (form, st)
-number (Err why) st = do
-  more ← with_fresh 1 st
-  Ok (variable_form st.ctx.vars, more)
+-- rows that are taken to hold; one that is past the bounds or known is left out
+unfoldable pub assuming : List (Result Linear TooLarge) → State → Walk State
+assuming rows st = do
+  ctx ← by_rule (filled (all_assuming rows st.ctx))
+  Ok (in_ctx ctx st)
 
 -- ---- demands
 
@@ -116,19 +106,7 @@ abbrev pub there : {A : Type 0} → Option A → Walk A
 there (Some x) = Ok x
 there None = Err Misfit
 
-abbrev pub as_number : Ty → Walk Linear
-as_number (ty.Int form) = Ok form
-as_number _ = Err Misfit
-
-abbrev pub as_truth : Ty → Walk (Unit {0})
-as_truth ty.Bool = Ok tt
-as_truth _ = Err Misfit
-
--- the type of the cells, and the length
-abbrev pub as_array : Ty → Walk (ℕ × Linear)
-as_array (ty.Array element form) = Ok (element, form)
-as_array _ = Err Misfit
-
+-- the number of a tuple's type
 abbrev pub as_tuple : Ty → Walk ℕ
 as_tuple (ty.Named number) = Ok number
 as_tuple _ = Err Misfit
@@ -137,44 +115,13 @@ abbrev pub like : Option Ty → Ty → Walk Ty
 like None t = Ok t
 like (Some old) t = if same_kind old t then Ok t else Err Misfit
 
--- a variable is declared, or assigned a value of its kind
+-- a variable, of which a function has as many as places at most, is declared, or assigned a value of its kind
 unfoldable pub given : ℕ → Ty → State → Walk State
 given x t st = do
+  few ← within limit.Places (suc x)
   it ← like (type_at x st.types) t
   Ok (record st { types = with_type x it st.types })
 
--- ---- closed types
-
-abbrev pub only_tuple : Packed → Walk Packed
-only_tuple packed = if packed.tuple then Ok packed else Err Misfit
-
--- the tuple type of this number
-unfoldable pub tuple_at : List Packed → ℕ → Walk Packed
-tuple_at table number = do
-  packed ← there (slice_get table number)
-  only_tuple packed
-
--- what the cells of an array of this type number hold: a tuple itself, or the one part of a cell type
-abbrev pub cell_with : ℕ → Packed → Packed
-cell_with number packed =
-    if packed.tuple then record { vars = 0; rows = []; parts = ty.Named number ∷ []; tuple = false } else packed
-
-unfoldable pub cell_at : List Packed → ℕ → Walk Packed
-cell_at table number = do
-  packed ← there (slice_get table number)
-  Ok (cell_with number packed)
-
--- its variables become fresh ones, and its parts have these types
-unfoldable pub opened : Packed → State → Walk (List Ty × State)
-opened packed st = do
-  (ctx, parts) ← in_context (unpacked st.ctx packed)
-  Ok (parts, in_ctx ctx st)
-
-abbrev pub first_part : List Ty → Walk Ty
-first_part [] = Err Misfit
-first_part (part ∷ parts) = Ok part
-
 -- a match of as many types
 unfoldable pub matching : (below vars : ℕ) → (rows : List Linear) → (wanted actual : List Ty) → Walk Found
-matching below vars rows wanted actual =
-    if length wanted == length actual then met (matched below vars rows wanted actual) else Err Misfit
+matching below vars rows wanted actual = by_rule (rules.matching below vars rows wanted actual)

@@ -1,14 +1,19 @@
 -- Tests: the rows that hold where a test is true, and those where it is false.
-use Rattle.std.specs.Prelude.{List, [], ◌∷◌, Result, Ok}
-use Rattle.xan_lin.specs.Linear.{Linear, difference_of, excess_of}
-use Rattle.xan_lin.specs.declared.term.TooLarge.{TooLarge}
+use Rattle.std.specs.Prelude.{true, false, None, List, [], ◌∷◌, Ok}
+use Rattle.xan_lin.specs.Linear.{Linear}
 use Rattle.state_types.specs.Answers.{◌>>=◌}
-use Rattle.xanadu_tree.specs.declared.expr.Rel.{Rel}
-use Rattle.xanadu_tree.specs.declared.expr.Rel.TheVariants as rel
+use Rattle.state_types.specs.declared.types.Ty.{Ty}
+use Rattle.operation_rules.specs.Applied.{all_assuming}
+use Rattle.operation_rules.specs.Faults.{filled}
+use Rattle.operation_rules.specs.Sides.{side}
+use Rattle.operation_rules.specs.declared.operation.Operation.{Operation}
+use Rattle.operation_rules.specs.declared.operation.Operation.TheVariants.{Branch, BranchTruth}
 use Rattle.xanadu_tree.specs.Plain as core
-use Rattle.typed_core.specs.Limits.{Walk}
+use Rattle.typed_core.specs.Constructs.{state_by}
+use Rattle.typed_core.specs.Limits.{Walk, by_rule}
 use Rattle.typed_core.specs.Operands.{operand}
-use Rattle.typed_core.specs.States.{Site, State, all_assumed, resuming, noting_state, as_number, as_truth}
+use Rattle.typed_core.specs.Operators.{comparison_of, in_order}
+use Rattle.typed_core.specs.States.{Site, State, resuming, noting_state}
 
 -- the rows on either side, and the state behind the test, whose own rows do not matter
 pub record Sides : Type 0 where
@@ -16,55 +21,27 @@ pub record Sides : Type 0 where
   pub on_false : List Linear
   pub after : State
 
--- ---- comparisons
-
--- f < g, and f <= g
-abbrev pub less : Linear → Linear → Result Linear TooLarge
-less f g = excess_of g f
-
-abbrev pub at_most : Linear → Linear → Result Linear TooLarge
-at_most f g = difference_of g f
-
--- what holds where the comparison is true
-abbrev pub true_rows : Rel → Linear → Linear → List (Result Linear TooLarge)
-true_rows rel.Lt f g = less f g ∷ []
-true_rows rel.Le f g = at_most f g ∷ []
-true_rows rel.Gt f g = less g f ∷ []
-true_rows rel.Ge f g = at_most g f ∷ []
-true_rows rel.Eq f g = at_most g f ∷ at_most f g ∷ []
-true_rows rel.Ne f g = []
-
--- and where it is false
-abbrev pub false_rows : Rel → Linear → Linear → List (Result Linear TooLarge)
-false_rows rel.Lt f g = at_most g f ∷ []
-false_rows rel.Le f g = less g f ∷ []
-false_rows rel.Gt f g = at_most f g ∷ []
-false_rows rel.Ge f g = less f g ∷ []
-false_rows rel.Eq f g = []
-false_rows rel.Ne f g = at_most g f ∷ at_most f g ∷ []
-
-unfoldable pub compared : Rel → Linear → Linear → State → Walk Sides
-compared rel f g st = do
-  yes_side ← all_assumed (true_rows rel f g) st.ctx
-  no_side ← all_assumed (false_rows rel f g) st.ctx
-  Ok (record { on_true = yes_side.rows; on_false = no_side.rows; after = st })
-
 -- ---- leaves
+
+-- a branch by an operation over these types: it has the rule of the operation, and what holds on either side comes behind that
+unfoldable pub branched : Site → Operation → List Ty → State → Walk Sides
+branched site op types st = do
+  more ← state_by site None op types st
+  yes_side ← by_rule (filled (all_assuming (side true op types) more.ctx))
+  no_side ← by_rule (filled (all_assuming (side false op types) more.ctx))
+  Ok (record { on_true = yes_side.rows; on_false = no_side.rows; after = more })
 
 -- a truth value, of which nothing follows
 unfoldable pub truth_leaf : Site → core.Expr → State → Walk Sides
 truth_leaf site e st = do
   (t, more) ← operand site e st
-  truth ← as_truth t
-  Ok (record { on_true = more.ctx.rows; on_false = more.ctx.rows; after = more })
+  branched site (BranchTruth true) (t ∷ []) more
 
 unfoldable pub leaf : Site → core.Expr → State → Walk Sides
 leaf site (core.Compare rel left right) st = do
   (t, one) ← operand site left st
-  f ← as_number t
   (u, two) ← operand site right one
-  g ← as_number u
-  compared rel f g two
+  branched site (Branch (comparison_of rel)) (in_order rel t u) two
 leaf site e st = truth_leaf site e st
 
 -- ---- tests

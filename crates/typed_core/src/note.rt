@@ -1,6 +1,6 @@
 //! Notes.
 
-use state_types::StateType;
+use state_types::{StateType, Ty};
 use xan_lin::Form;
 use xan_seq::Seq;
 
@@ -10,10 +10,11 @@ use xan_seq::Seq;
 pub enum Note {
     /// What is known at a place where control flow parts or meets. The places are the visible variables.
     State(StateType),
-    /// A way into a state where control flow meets: the values of that state's new variables, by rising variable, and the goals among
-    /// the rows that it demands.
+    /// A way into a state where control flow meets: the values of that state's new variables, by rising variable; the present types of
+    /// the variables whose types the state states, in the order of its clause; and the goals among the rows that it demands.
     Edge {
         values: Seq<(u32, Form)>,
+        present: Seq<Ty>,
         goals: Seq<u32>,
     },
     /// The goals among the rows that a construct demands.
