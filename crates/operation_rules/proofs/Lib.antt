@@ -19,4 +19,5 @@ pub mod CallsMade
 pub mod SidesMade
 pub mod TypesGiven
 pub mod RowsNamed
+pub mod RuleNames
 pub mod PlacesRead

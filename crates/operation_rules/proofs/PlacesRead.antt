@@ -28,7 +28,7 @@ there_below n (p ∷ ps) types e all =
 
 pub ruled_named : (st : Setting) (op : Operation) (places : List (Option Ty)) (n : ℕ) (types : List Ty) (r : Rule) → IsSetting st → all_there places ≡ Ok types
     → rule st op types n ≡ Ok r → All (PlaceBelow n) places → All (IsNamed (n + r.fresh)) r.assumed
-ruled_named st op places n types r set there is below = rows_named st op types n r set is (there_below n places types there below)
+ruled_named st op places n types r set there is below = rows_named st op types n r set.table is (there_below n places types there below)
 
 -- ---- one by one
 

@@ -10,6 +10,7 @@ use Rattle.xan_lin.specs.Terms.{sum_terms, negated_terms}
 use Rattle.xan_lin.specs.declared.term.Term.{Term}
 use Rattle.xan_lin.specs.declared.term.TooLarge.{TooLarge}
 use Rattle.state_types.specs.Naming.{ValuesBelow}
+use Rattle.state_types.specs.Tables.{IsClosed}
 use Rattle.state_types.specs.Types.{TypeBelow}
 use Rattle.state_types.specs.Unpacking.{shifted}
 use Rattle.state_types.specs.declared.types.Ty.{Ty}
@@ -23,7 +24,6 @@ use Rattle.operation_rules.specs.Forms.{constant_form, number_of, multiple_form,
 use Rattle.operation_rules.specs.Named.{IsNamed}
 use Rattle.operation_rules.specs.Operations.{Operation, Literal, Truth, Move, Add, Sub, Mul, Div, Mod, Compare, Branch, BranchTruth, Jump, Call, Return, Length, Load, Store, New, Tuple, Untuple, Print}
 use Rattle.operation_rules.specs.Rules.{Setting, Rule, gives_number, product, no_types, one_type, two_types, three_types, as_number, as_truth, as_array, as_tuple, two_numbers, tuple_at, cell_at, as_many, matching, of_kinds, matching_packed, quotient, remainder, measured, loaded, stored, allocated, constructed, split, called, returned, rule}
-use Rattle.operation_rules.specs.Sound.{IsSetting}
 use Rattle.operation_rules.proofs.BlocksFound.{tuple_closed, cell_closed, matching_is}
 use Rattle.operation_rules.proofs.NumbersFare.{below_first, below_second}
 use Rattle.operation_rules.proofs.WordsRead.{one_type_is, two_numbers_is, as_array_is}
@@ -37,11 +37,11 @@ nothing n = All-nil (IsNamed n)
 same_rows : (first : ℕ) (made r : Rule) → (let x : Ruling Rule = Ok made in x) ≡ Ok r → Rows first made → Rows first r
 same_rows first made r e rows = subst (λ x. Rows first x) (ok_same made r e) rows
 
-named_result : (n : ℕ) (r : Result Linear TooLarge) → ((form : Linear) → r ≡ Ok form → NamesBelow n form) → IsNamed n r
+pub named_result : (n : ℕ) (r : Result Linear TooLarge) → ((form : Linear) → r ≡ Ok form → NamesBelow n form) → IsNamed n r
 named_result n (Ok form) h = h form refl
 named_result n (Err why) h = tt
 
-two_rows : (n : ℕ) (x y : Result Linear TooLarge) → IsNamed n x → IsNamed n y → All (IsNamed n) (x ∷ y ∷ [])
+pub two_rows : (n : ℕ) (x y : Result Linear TooLarge) → IsNamed n x → IsNamed n y → All (IsNamed n) (x ∷ y ∷ [])
 two_rows n x y a b = All-cons (IsNamed n) x (y ∷ []) a (All-cons (IsNamed n) y [] b (All-nil (IsNamed n)))
 
 -- ---- numbers
@@ -63,7 +63,7 @@ below-multiple n q c k h =
 same_excess : (a b : ℤ) → (a -ℤ pos 1) -ℤ b ≡ (a -ℤ b) -ℤ pos 1
 same_excess a b = omega (arith, ints)
 
-below-excess : (n : ℕ) (e f row : Linear) → excess_of e f ≡ Ok row → NamesBelow n e → NamesBelow n f → NamesBelow n row
+pub below-excess : (n : ℕ) (e f row : Linear) → excess_of e f ≡ Ok row → NamesBelow n e → NamesBelow n f → NamesBelow n row
 unfolding excess_of
 below-excess n e f row is h k =
     below-difference n (record { terms = e.terms; constant = e.constant -ℤ pos 1 }) f row
@@ -125,24 +125,24 @@ measured-op first types r e below =
     same_rows first _ r t.second
     (All-cons (IsNamed (first + 0)) (Ok t.value.1) [] (below-more first (first + 0) t.value.1 (omega arith) named) (All-nil (IsNamed (first + 0))))
 
-loaded-op : (st : Setting) (first : ℕ) (types : List Ty) (r : Rule) → IsSetting st → loaded st first types ≡ Ok r → Rows first r
+loaded-op : (st : Setting) (first : ℕ) (types : List Ty) (r : Rule) → All IsClosed st.table → loaded st first types ≡ Ok r → Rows first r
 unfolding loaded
-loaded-op st first types r set e =
+loaded-op st first types r closed e =
     let s = then_ok (two_types types) _ r e in
     let t = then_ok (as_array s.value.0) _ r s.second in
     let u = then_ok (as_number s.value.1) _ r t.second in
     let v = then_ok (needed (excess_of t.value.1 u.value)) _ r u.second in
     let w = then_ok (cell_at st.table t.value.0) _ r v.second in
-    same_rows first _ r w.second (opened-rows first w.value.vars w.value.rows (cell_closed st.table t.value.0 w.value set.table w.first).rows)
+    same_rows first _ r w.second (opened-rows first w.value.vars w.value.rows (cell_closed st.table t.value.0 w.value closed w.first).rows)
 
-split-op : (st : Setting) (first number count : ℕ) (types : List Ty) (r : Rule) → IsSetting st → split st first number count types ≡ Ok r → Rows first r
+split-op : (st : Setting) (first number count : ℕ) (types : List Ty) (r : Rule) → All IsClosed st.table → split st first number count types ≡ Ok r → Rows first r
 unfolding split
-split-op st first number count types r set e =
+split-op st first number count types r closed e =
     let s = then_ok (tuple_at st.table number) _ r e in
     let t = then_ok (one_type types) _ r s.second in
     let u = then_ok (as_many (length s.value.parts) count) _ r t.second in
     let v = then_ok (as_tuple number t.value) _ r u.second in
-    same_rows first _ r v.second (opened-rows first s.value.vars s.value.rows (tuple_closed st.table number s.value set.table s.first).rows)
+    same_rows first _ r v.second (opened-rows first s.value.vars s.value.rows (tuple_closed st.table number s.value closed s.first).rows)
 
 stored-op : (st : Setting) (first : ℕ) (types : List Ty) (r : Rule) → stored st types ≡ Ok r → Rows first r
 unfolding stored
@@ -174,7 +174,7 @@ constructed-op st first number types r e =
 
 -- ---- calls
 
-values-both : (n : ℕ) (values : List (ℕ × Linear)) (number first count : ℕ) → ValuesBelow n values → first + count ≤ n → ValuesBelow n (values ++ variables_from number first count)
+pub values-both : (n : ℕ) (values : List (ℕ × Linear)) (number first count : ℕ) → ValuesBelow n values → first + count ≤ n → ValuesBelow n (values ++ variables_from number first count)
 unfolding variables_from
 values-both n [] number first zero all h = All-nil (λ v. NamesBelow n v.1)
 values-both n [] number first (suc count) all h =
@@ -206,37 +206,37 @@ called-op st first fun types r e below =
 
 -- ---- all operations
 
-pub rows_named : (st : Setting) (op : Operation) (types : List Ty) (first : ℕ) (r : Rule) → IsSetting st → rule st op types first ≡ Ok r → All (TypeBelow first) types
+pub rows_named : (st : Setting) (op : Operation) (types : List Ty) (first : ℕ) (r : Rule) → All IsClosed st.table → rule st op types first ≡ Ok r → All (TypeBelow first) types
     → All (IsNamed (first + r.fresh)) r.assumed
 unfolding rule returned
-rows_named st (Literal n) types first r set e below = (let s = then_ok (no_types types) _ r e in same_rows first _ r s.second (number-rows first (sized [] n)))
-rows_named st (Truth b) types first r set e below = (let s = then_ok (no_types types) _ r e in same_rows first _ r s.second (nothing (first + 0)))
-rows_named st Move types first r set e below = (let s = then_ok (one_type types) _ r e in same_rows first _ r s.second (nothing (first + 0)))
-rows_named st Add types first r set e below = (let s = then_ok (two_numbers types) _ r e in same_rows first _ r s.second (number-rows first (sum_of s.value.0 s.value.1)))
-rows_named st Sub types first r set e below = (let s = then_ok (two_numbers types) _ r e in same_rows first _ r s.second (number-rows first (difference_of s.value.0 s.value.1)))
-rows_named st Mul types first r set e below =
+rows_named st (Literal n) types first r closed e below = (let s = then_ok (no_types types) _ r e in same_rows first _ r s.second (number-rows first (sized [] n)))
+rows_named st (Truth b) types first r closed e below = (let s = then_ok (no_types types) _ r e in same_rows first _ r s.second (nothing (first + 0)))
+rows_named st Move types first r closed e below = (let s = then_ok (one_type types) _ r e in same_rows first _ r s.second (nothing (first + 0)))
+rows_named st Add types first r closed e below = (let s = then_ok (two_numbers types) _ r e in same_rows first _ r s.second (number-rows first (sum_of s.value.0 s.value.1)))
+rows_named st Sub types first r closed e below = (let s = then_ok (two_numbers types) _ r e in same_rows first _ r s.second (number-rows first (difference_of s.value.0 s.value.1)))
+rows_named st Mul types first r closed e below =
     (let s = then_ok (two_numbers types) _ r e in
     same_rows first _ r s.second (product-rows first s.value.0 (number_of s.value.0) s.value.1 (number_of s.value.1)))
-rows_named st Div types first r set e below = quotient-op first types r e below
-rows_named st Mod types first r set e below = remainder-op first types r e below
-rows_named st (Compare c) types first r set e below = (let s = then_ok (two_numbers types) _ r e in same_rows first _ r s.second (nothing (first + 0)))
-rows_named st (Branch c) types first r set e below = (let s = then_ok (two_numbers types) _ r e in same_rows first _ r s.second (nothing (first + 0)))
-rows_named st (BranchTruth b) types first r set e below =
+rows_named st Div types first r closed e below = quotient-op first types r e below
+rows_named st Mod types first r closed e below = remainder-op first types r e below
+rows_named st (Compare c) types first r closed e below = (let s = then_ok (two_numbers types) _ r e in same_rows first _ r s.second (nothing (first + 0)))
+rows_named st (Branch c) types first r closed e below = (let s = then_ok (two_numbers types) _ r e in same_rows first _ r s.second (nothing (first + 0)))
+rows_named st (BranchTruth b) types first r closed e below =
     (let s = then_ok (one_type types) _ r e in
     let t = then_ok (as_truth s.value) _ r s.second in
     same_rows first _ r t.second (nothing (first + 0)))
-rows_named st Jump types first r set e below = (let s = then_ok (no_types types) _ r e in same_rows first _ r s.second (nothing (first + 0)))
-rows_named st (Call fun) types first r set e below = called-op st first fun types r e below
-rows_named st Return types first r set e below =
+rows_named st Jump types first r closed e below = (let s = then_ok (no_types types) _ r e in same_rows first _ r s.second (nothing (first + 0)))
+rows_named st (Call fun) types first r closed e below = called-op st first fun types r e below
+rows_named st Return types first r closed e below =
     (let s = then_ok (matching st.own.vars (st.own.vars + st.own.result_vars) st.own.result_rows (st.own.result ∷ []) types) _ r e in
     same_rows first _ r s.second (nothing (first + 0)))
-rows_named st Length types first r set e below = measured-op first types r e below
-rows_named st Load types first r set e below = loaded-op st first types r set e
-rows_named st Store types first r set e below = stored-op st first types r e
-rows_named st (New cells) types first r set e below = allocated-op st first cells types r e
-rows_named st (Tuple number) types first r set e below = constructed-op st first number types r e
-rows_named st (Untuple number count) types first r set e below = split-op st first number count types r set e
-rows_named st Print types first r set e below =
+rows_named st Length types first r closed e below = measured-op first types r e below
+rows_named st Load types first r closed e below = loaded-op st first types r closed e
+rows_named st Store types first r closed e below = stored-op st first types r e
+rows_named st (New cells) types first r closed e below = allocated-op st first cells types r e
+rows_named st (Tuple number) types first r closed e below = constructed-op st first number types r e
+rows_named st (Untuple number count) types first r closed e below = split-op st first number count types r closed e
+rows_named st Print types first r closed e below =
     (let s = then_ok (one_type types) _ r e in
     let t = then_ok (as_number s.value) _ r s.second in
     same_rows first _ r t.second (nothing (first + 0)))
