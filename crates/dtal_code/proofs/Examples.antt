@@ -1,13 +1,16 @@
 -- Runs worked out by hand, which the definitions give by computation.
-use Rattle.std.proofs.Common.{◌≡◌, ◌++◌, ℕ, ℤ, lit<, lit≤, pos, negsuc, ◌^◌, ◌-◌, true, List, [], ◌∷◌, Result, Ok, Err, codes, refl}
+use Rattle.std.proofs.Common.{◌≡◌, ℕ, ℤ, lit<, lit≤, pos, negsuc, ◌^◌, ◌-◌, true, List, [], ◌∷◌, Result, Ok, Err, codes, refl}
+use Rattle.std.proofs.lemmas.Option.{none-some}
 use Rattle.xan_io.specs.declared.arg.Arg.TheVariants.{Int, Bool}
 use Rattle.xan_io.specs.Outcome.{Outcome, Returned, NoStore, Overflow, Stuck, Running}
 use Rattle.xan_io.specs.Entry.{EntryFault, ArgCount, ArgKind}
+use Rattle.state_types.specs.Words.{header_from}
+use Rattle.operation_rules.specs.FlatWords.{is_whole_from}
 use Rattle.dtal_code.specs.declared.op.Op.{Op}
 use Rattle.dtal_code.specs.declared.op.Op.TheVariants.{Li, Mv, Add, Sub, Ret, Print}
 use Rattle.dtal_code.specs.declared.straight.Straight.{Straight}
 use Rattle.dtal_code.specs.Machine.{step, run}
-use Rattle.dtal_code.specs.Touched.{Block, blocks_words, IsAllocated}
+use Rattle.dtal_code.specs.Touched.{IsAllocated}
 use Rattle.dtal_code.specs.Entry.{places_of, outcome_from, straight_run}
 
 -- the outcome of a run after so many steps
@@ -71,11 +74,12 @@ past_end = refl
 
 -- two cells, then an empty block: the last word of the second block is allocated
 second_block : IsAllocated (pos 2 ∷ pos 2 ∷ pos 7 ∷ pos 8 ∷ pos 4 ∷ pos 0 ∷ []) (pos 5)
+unfolding header_from is_whole_from
 second_block = record {
-  before = record { descriptor = pos 2; cells = pos 7 ∷ pos 8 ∷ [] } ∷ [];
-  block = record { descriptor = pos 4; cells = [] };
-  behind = [];
   divided = refl;
+  block = 4;
+  header = record { descriptor = pos 4; cells = pos 0 };
+  begins = refl;
   number = 5;
   is = refl;
   from = lit≤ tt;
@@ -84,8 +88,5 @@ second_block = record {
 
 -- an empty store has no allocated address
 empty_store : (address : ℤ) → IsAllocated [] address → ⊥
-empty_store address allocated = no_words allocated.before allocated.block allocated.behind allocated.divided
-  where
-    no_words : (before : List Block) (block : Block) (behind : List Block) → [] ≡ blocks_words (before ++ (block ∷ behind)) → ⊥
-    no_words [] block behind e = cc
-    no_words (first ∷ before) block behind e = cc
+unfolding header_from
+empty_store address allocated = absurd (none-some allocated.header allocated.begins)

@@ -4,3 +4,7 @@ pub mod Alone
 mod Parts
 mod Spelling
 mod Examples
+pub mod VerifiedPrograms
+pub mod ObjectRuns
+mod ArraySums
+mod CodeRuns

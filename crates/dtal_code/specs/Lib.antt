@@ -3,3 +3,17 @@ pub mod Text
 pub mod Machine
 pub mod Entry
 pub mod Touched
+pub mod Instructions
+pub mod Spelling
+pub mod Grammar
+pub mod Verdicts
+pub mod Declarations
+pub mod Passing
+pub mod Refusing
+pub mod Acceptance
+pub mod ObjectCode
+pub mod Running
+pub mod Runs
+pub mod Safety
+pub mod Fitting
+pub mod ObjectWords

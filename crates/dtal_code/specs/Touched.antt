@@ -1,5 +1,7 @@
 -- Which addresses of the store a step touches, which are allocated, and which runs are safe.
-use Rattle.std.specs.Prelude.{◌≡◌, ◌≢◌, ℕ, ◌+◌, ◌<◌, ◌≤◌, ℤ, pos, List, [], ◌∷◌, ◌++◌, length, All, Option, None, Some, Result, Ok, Err, slice_get}
+use Rattle.std.specs.Prelude.{◌≡◌, ◌≢◌, ℕ, ◌+◌, ◌<◌, ◌≤◌, ℤ, pos, true, List, [], ◌∷◌, All, Option, None, Some, Result, Ok, Err, slice_get}
+use Rattle.state_types.specs.Words.{Header, cell_count, header_at}
+use Rattle.operation_rules.specs.FlatWords.{is_whole}
 use Rattle.xan_io.specs.Entry.{EntryFault}
 use Rattle.xan_io.specs.Outcome.{Stuck}
 use Rattle.dtal_code.specs.declared.op.Op.{Op}
@@ -9,28 +11,17 @@ use Rattle.dtal_code.specs.Entry.{outcome_from, state_from}
 
 -- ---- allocated addresses
 
--- a block of the store: a descriptor, then the number of its cells, then these
-pub record Block : Type 0 where
-  pub descriptor : ℤ
-  pub cells : List ℤ
-
-abbrev pub block_words : Block → List ℤ
-block_words block = block.descriptor ∷ pos (length block.cells) ∷ block.cells
-
-abbrev pub blocks_words : List Block → List ℤ
-blocks_words [] = []
-blocks_words (block ∷ blocks) = block_words block ++ blocks_words blocks
-
--- The walk of headers from address 0 divides the used words into blocks, and the address lies in one of them.
+-- The walk of headers from address 0 divides the used words into blocks, and the address lies in one of them: in its two words of header or in
+-- one of its cells.
 pub record IsAllocated (words : List ℤ) (address : ℤ) : Type 0 where
-  pub before : List Block
-  pub block : Block
-  pub behind : List Block
-  pub divided : words ≡ blocks_words (before ++ (block ∷ behind))
+  pub divided : is_whole words ≡ true
+  pub block : ℕ
+  pub header : Header
+  pub begins : header_at words block ≡ Some header
   pub number : ℕ
   pub is : address ≡ pos number
-  pub from : length (blocks_words before) ≤ number
-  pub within : number < length (blocks_words before) + length (block_words block)
+  pub from : block ≤ number
+  pub within : number < block + 2 + cell_count header.cells
 
 -- ---- touched addresses
 

@@ -1,16 +1,30 @@
-//! The assembly language: its instructions, its text and its machine, as far as straight programs go.
+//! The assembly language: its instructions, its text, what it is for a program to be accepted, its object code and its machine.
 //!
-//! A straight program is one function without jumps. This crate owns what its text is, what a machine makes of it step by step, and
-//! where a run begins. It promises that the printed text is the one spelling, that a text spells at most one program, and that a run
-//! is steady: an end stays, and what was printed stays printed. It stands on `xan_io` and `xan_seq`.
+//! This crate owns the definitions: which bytes spell a program, which programs are accepted, what a machine makes of their object code
+//! step by step, where a run begins, and what it is for a run to be safe. It promises that what the walk over a program's places does not
+//! refuse is accepted, and that a run is steady: an end stays, and what was printed stays printed. Of straight programs, that is of one
+//! function without jumps, it has the printer too, and promises that the printed text is the one spelling and that a text spells at most
+//! one program. It stands on `operation_rules` and `proof_lines`, with what these stand on.
 #![tactic(auto)]
 
+pub mod instruction;
 mod laws;
+pub mod limits;
+mod object;
 mod op;
 mod print;
+mod program;
+mod refusal;
 mod straight;
 
-pub use laws::{one_program_a_text, straight_runs_are_steady};
+pub use instruction::{Cmp, Instr};
+pub use laws::{
+    accepted_programs_are_verified, object_runs_are_steady, one_program_a_text,
+    straight_runs_are_steady, what_is_not_refused_is_accepted,
+};
+pub use object::{Object, RunOp};
 pub use op::Op;
 pub use print::print_straight;
+pub use program::{Block, DtalProgram, Function, LabelState};
+pub use refusal::{Refusal, Rule, Where};
 pub use straight::Straight;
