@@ -206,8 +206,8 @@ loaded-names st first types r closed e below =
     let is = two_types_is types s.value s.first in
     same_names first _ r w.second (record {
       demands = index-rows first t.value.1 u.value v.value v.first
-        (length-below first s.value.0 t.value t.first (below_first first types s.value.0 (s.value.1 ∷ []) is below))
-        (number-below first s.value.1 u.value u.first (below_second first types s.value.0 s.value.1 [] is below)) [] (no_demands first);
+          (length-below first s.value.0 t.value t.first (below_first first types s.value.0 (s.value.1 ∷ []) is below))
+          (number-below first s.value.1 u.value u.first (below_second first types s.value.0 s.value.1 [] is below)) [] (no_demands first);
       given = parts-named first w.value.vars w.value.parts (cell_closed st.table t.value.0 w.value closed w.first).parts;
     })
 
@@ -223,13 +223,13 @@ stored-names st first types r e below =
     let y = then_ok (matching_packed v.value (s.value.2 ∷ [])) _ r x.second in
     let is = three_types_is types s.value s.first in
     let later : All (TypeBelow first) (s.value.1 ∷ s.value.2 ∷ []) =
-        All-tail (TypeBelow first) s.value.0 (s.value.1 ∷ s.value.2 ∷ []) (subst (λ ts. All (TypeBelow first) ts) is below) in
+    All-tail (TypeBelow first) s.value.0 (s.value.1 ∷ s.value.2 ∷ []) (subst (λ ts. All (TypeBelow first) ts) is below) in
     let last : All (TypeBelow first) (s.value.2 ∷ []) = All-tail (TypeBelow first) s.value.1 (s.value.2 ∷ []) later in
     let found = matching-below first 0 v.value.vars v.value.rows v.value.parts (s.value.2 ∷ []) y.value y.first (omega arith) last in
     same_names first _ r y.second (record {
       demands = index-rows first t.value.1 u.value x.value x.first
-        (length-below first s.value.0 t.value t.first (below_first first types s.value.0 (s.value.1 ∷ s.value.2 ∷ []) is below))
-        (number-below first s.value.1 u.value u.first (below_second first types s.value.0 s.value.1 (s.value.2 ∷ []) is below)) y.value.rows found.rows;
+          (length-below first s.value.0 t.value t.first (below_first first types s.value.0 (s.value.1 ∷ s.value.2 ∷ []) is below))
+          (number-below first s.value.1 u.value u.first (below_second first types s.value.0 s.value.1 (s.value.2 ∷ []) is below)) y.value.rows found.rows;
       given = no_types_named (first + 0);
     })
 
@@ -243,7 +243,7 @@ allocated-names st first cells types r e below =
     let is = two_types_is types t.value t.first in
     let named = number-below first t.value.0 u.value u.first (below_first first types t.value.0 (t.value.1 ∷ []) is below) in
     let found = matching-below first 0 s.value.vars s.value.rows s.value.parts (t.value.1 ∷ []) v.value v.first (omega arith)
-          (one-below first t.value.1 (below_second first types t.value.0 t.value.1 [] is below)) in
+    (one-below first t.value.1 (below_second first types t.value.0 t.value.1 [] is below)) in
     same_names first _ r v.second (record {
       demands = All-cons (NamesBelow first) u.value v.value.rows named found.rows;
       given = one_type (first + 0) (Ok (ty.Array cells u.value)) (same_type first (ty.Array cells u.value) named);
@@ -290,7 +290,7 @@ called-names st first fun types r e below =
     same_names first _ r t.second (record {
       demands = (matching-below first 0 s.value.vars s.value.rows s.value.params types t.value t.first (omega arith) below).rows;
       given = one_type n (subst_ty all 0 s.value.result)
-        (result-named n all s.value.result (values-both n t.value.values s.value.vars first s.value.result_vars found.values (omega arith)));
+          (result-named n all s.value.result (values-both n t.value.values s.value.vars first s.value.result_vars found.values (omega arith)));
     })
 
 returned-names : (st : Setting) (first : ℕ) (types : List Ty) (r : Rule) → returned st.own types ≡ Ok r → st.own.vars ≤ first → All (TypeBelow first) types → Names first r

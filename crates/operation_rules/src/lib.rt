@@ -28,8 +28,8 @@ mod tuples;
 pub use crate::applying::{Outcome, apply, assume, assume_all, types_given, widen};
 pub use crate::error::{Fault, RuleError};
 pub use crate::laws::{
-    assumed_rows_are_named, flat_words_are_stores, operations_are_sound, ruled_rows_and_types_are_named,
-    sides_are_named,
+    assumed_rows_are_named, flat_words_are_stores, operations_are_sound,
+    ruled_rows_and_types_are_named, sides_are_named,
 };
 pub use crate::operation::{Needs, Operation, needs_of};
 pub use crate::placed::ruled;
