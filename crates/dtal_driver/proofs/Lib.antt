@@ -1,5 +1,6 @@
 pub mod Arguments
 pub mod Commands
+pub mod LineParts
 pub mod Promises
 pub mod Reports
 pub mod Running

@@ -18,7 +18,7 @@ use Rattle.dtal_machine.specs.declared.refusal.VerifyError.TheVariants as verify
 use Rattle.dtal_driver.specs.declared.answer.Answer.TheVariants as answer
 use Rattle.dtal_driver.specs.declared.run.End.{End}
 use Rattle.dtal_driver.specs.declared.run.End.TheVariants as ends
-use Rattle.dtal_driver.specs.Report.{Report, plain, heap, depth, steps, end_of, how_of, answer_of, ended, unless_refused, fault_answer, run_report, accepted_report, program_report, ReportsOf, Reports}
+use Rattle.dtal_driver.specs.Report.{Report, plain, heap, depth, steps, end_of, how_of, answer_of, unless_refused, fault_answer, run_report, accepted_report, program_report, ReportsOf, Reports}
 use Rattle.dtal_driver.specs.Words.{Meant, Verify, Run}
 
 -- ---- one report

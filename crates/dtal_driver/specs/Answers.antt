@@ -1,6 +1,5 @@
 -- What each answer of the program says: a status, and a line on the output.
 use Rattle.std.specs.Prelude.{ℕ, ℤ, List, [], ◌∷◌, ◌++◌, codes, decimal}
-use Rattle.std.specs.Fmt.{signed_decimal}
 use Rattle.dtal_machine.specs.declared.refusal.Where.{Where}
 use Rattle.dtal_machine.specs.declared.refusal.Where.TheVariants as place
 use Rattle.dtal_machine.specs.declared.refusal.Rule.{Rule}

@@ -35,13 +35,6 @@ pub record IsRefusedText (bytes : List ℕ) (at : Where) (rule : Rule) : Type 0 
   pub text : IsStraightText bytes program
   pub refused : refusal program ≡ Some (verify.Refused at rule)
 
--- the answer to bytes that give no accepted program; memory may run out at any time
-abbrev pub RefusesBytes : List ℕ → Answer → Type 0
-RefusesBytes bytes answer.NotBuilt = IsNoText bytes
-RefusesBytes bytes (answer.Refused at rule) = IsRefusedText bytes at rule
-RefusesBytes bytes answer.Memory = Unit {0}
-RefusesBytes bytes _ = ⊥
-
 -- the program is accepted and short, and where the content is told, it is the text of the program
 pub record Accepts (content : Option (List ℕ)) (program : Straight) : Type 0 where
   pub accepted : IsAccepted program

@@ -2,4 +2,5 @@ pub mod Answers
 pub mod Causes
 pub mod Promises
 pub mod Report
+pub mod Stops
 pub mod Words

@@ -2,8 +2,11 @@
 
 ghost use Rattle.std.specs.Prelude.{◌≡◌};
 ghost use Rattle.dtal_driver.specs.Answers.{status_of};
+ghost use Rattle.dtal_driver.specs.Stops.{of_read, of_text, of_verdict};
 
-use dtal_machine::{Rule, Where};
+use dtal_machine::{Rule, VerifyError, Where};
+use dtal_text::StraightError;
+use xan_io::FileFault;
 
 /// How a command came out, in the order in which it may end. Arguments and rows are numbered from 1.
 #[derive(Clone, Copy)]
@@ -48,6 +51,39 @@ impl Answer {
             Answer::ArgCount | Answer::ArgKind(_) | Answer::ArgIndex(_) | Answer::EntryRow(_) => 12,
             Answer::Overflow => 14,
             Answer::NotBuilt => 20,
+        }
+    }
+}
+
+impl From<FileFault> for Answer {
+    ghost from_gives = { λ fault answer. answer ≡ of_read fault };
+
+    fn from(fault: FileFault) -> Answer {
+        match fault {
+            FileFault::Failed => Answer::ReadFailed,
+            FileFault::Memory => Answer::Memory,
+        }
+    }
+}
+
+impl From<StraightError> for Answer {
+    ghost from_gives = { λ error answer. answer ≡ of_text error };
+
+    fn from(error: StraightError) -> Answer {
+        match error {
+            StraightError::Form => Answer::NotBuilt,
+            StraightError::Memory => Answer::Memory,
+        }
+    }
+}
+
+impl From<VerifyError> for Answer {
+    ghost from_gives = { λ error answer. answer ≡ of_verdict error };
+
+    fn from(error: VerifyError) -> Answer {
+        match error {
+            VerifyError::Refused { at, rule } => Answer::Refused { at, rule },
+            VerifyError::Memory => Answer::Memory,
         }
     }
 }

@@ -1,207 +1,182 @@
-//! The lines of the answers, put without memory. After a fault a prefix of the line is put.
+//! The lines of the answers, each put as one piece, without memory. After a fault a prefix of the line is put.
 
-ghost use Rattle.std.specs.Prelude.{◌≡◌, ◌≤◌, OnOk, OnErr, ◌++◌, codes};
+ghost use Rattle.std.specs.Prelude.{◌≡◌, ◌≤◌, ◌+◌, ◌++◌, length, codes, OnOk, OnErr};
 ghost use Rattle.std.specs.Io.KnownBytes.{append_known};
 ghost use Rattle.xan_io.specs.Faults.{Rose};
+ghost use Rattle.xan_io.specs.Lines.{number_line};
 ghost use Rattle.xan_io.specs.Written.{AppendsPrefix};
-ghost use Rattle.dtal_driver.specs.Answers.{line_of, numbered, refused_line, rule_name, where_text};
+ghost use Rattle.dtal_driver.specs.Answers as spec;
+ghost use Rattle.dtal_driver.specs.Answers.{numbered, rule_name, where_text};
 
 use crate::answer::Answer;
+use arrayvec::ArrayString;
 use dtal_machine::{Rule, Where};
 use itoa::Buffer;
-use xan_io::{Sink, SinkFault, put_number};
+use xan_io::{Sink, SinkFault};
+
+/// A line. The longest is a word, a place, and three words.
+type Line = ArrayString<260>;
 
 /// Puts the line of the answer.
 pub fn put_line<O: Sink>(out: &mut O, answer: Answer) -> Result<(), SinkFault>
-    ensures appended { OnOk result (O.written out.new ≡ append_known (O.written out.old) (line_of answer)) }
+    ensures appended { OnOk result (O.written out.new ≡ append_known (O.written out.old) (spec.line_of answer)) }
     ensures counted { OnOk result (O.faults out.new ≡ O.faults out.old) }
-    ensures prefix { OnErr result (AppendsPrefix (O.written out.old) (O.written out.new) (line_of answer)) }
+    ensures prefix { OnErr result (AppendsPrefix (O.written out.old) (O.written out.new) (spec.line_of answer)) }
     ensures failed { OnErr result (Rose (O.faults out.old) (O.faults out.new)) }
     ensures never_falls { O.faults out.old ≤ O.faults out.new }
+{
+    let line = line_of(answer);
+    out.put(line.as_bytes())
+}
+
+/// The line of an answer.
+fn line_of(answer: Answer) -> Line
+    ensures { result.bytes ≡ spec.line_of answer }
 {
     match answer {
-        Answer::NoCommand => out.put(b"words: not a command\n"),
-        Answer::ReadFailed => out.put(b"read: failed\n"),
-        Answer::Memory => out.put(b"memory\n"),
-        Answer::NotBuilt => out.put(b"not built yet\n"),
-        Answer::Refused { at, rule } => put_refused(out, at, rule),
-        Answer::Accepted(instructions) => put_between(
-            out,
-            b"accepted: 1 functions, ",
+        Answer::NoCommand => line_of_word("words: not a command\n"),
+        Answer::ReadFailed => line_of_word("read: failed\n"),
+        Answer::Memory => line_of_word("memory\n"),
+        Answer::NotBuilt => line_of_word("not built yet\n"),
+        Answer::Refused { at, rule } => {
+            line_of_place("refused: ", at, ": rule ", name_of(rule), "\n")
+        }
+        Answer::Accepted(instructions) => line_of_number(
+            "accepted: 1 functions, ",
             instructions,
-            b" instructions\n",
+            " instructions\n",
         ),
-        Answer::ArgCount => out.put(b"entry: count\n"),
-        Answer::ArgKind(argument) => put_between(out, b"entry: kind of argument ", argument, b"\n"),
-        Answer::ArgIndex(argument) => put_between(
-            out,
-            b"entry: index of argument ",
-            argument,
-            b"\n",
-        ),
-        Answer::EntryRow(row) => put_between(out, b"entry: row ", row, b"\n"),
-        Answer::Returned(word) => put_number(out, &word),
-        Answer::Overflow => out.put(b"overflow\n"),
+        Answer::ArgCount => line_of_word("entry: count\n"),
+        Answer::ArgKind(argument) => line_of_number("entry: kind of argument ", argument, "\n"),
+        Answer::ArgIndex(argument) => line_of_number("entry: index of argument ", argument, "\n"),
+        Answer::EntryRow(row) => line_of_number("entry: row ", row, "\n"),
+        Answer::Returned(word) => line_of_result(&word),
+        Answer::Overflow => line_of_word("overflow\n"),
     }
 }
 
-/// Puts a word and a number behind it.
-fn put_numbered<O: Sink>(out: &mut O, word: &[u8], number: u32) -> Result<(), SinkFault>
-    ensures appended { OnOk result (O.written out.new ≡ append_known (O.written out.old) (numbered word.now number)) }
-    ensures counted { OnOk result (O.faults out.new ≡ O.faults out.old) }
-    ensures prefix { OnErr result (AppendsPrefix (O.written out.old) (O.written out.new) (numbered word.now number)) }
-    ensures failed { OnErr result (Rose (O.faults out.old) (O.faults out.new)) }
-    ensures never_falls { O.faults out.old ≤ O.faults out.new }
+/// A line that is always the same.
+fn line_of_word(word: &str) -> Line
+    requires { length word.now ≤ 30 }
+    ensures { result.bytes ≡ word.now }
+{
+    let mut line = ArrayString::new();
+    line.push_str(word);
+    line
+}
+
+/// The line of the number that a run returned.
+fn line_of_result(number: &i64) -> Line
+    ensures { result.bytes ≡ number_line number.now }
 {
     let mut buffer = Buffer::new();
-    let digits = buffer.format(number).as_bytes();
-    put_two(out, word, digits)
+    let mut line = ArrayString::new();
+    line.push_str(buffer.format(*number));
+    line.push_str("\n");
+    line
 }
 
-/// Puts a word, a number and another word.
-#[tactic(auto, using(xan_io::proofs::Puts::puts))]
-fn put_between<O: Sink>(out: &mut O, word: &[u8], number: u32, more: &[u8]) -> Result<(), SinkFault>
-    ensures appended { OnOk result (O.written out.new ≡ append_known (O.written out.old) (numbered word.now number ++ more.now)) }
-    ensures counted { OnOk result (O.faults out.new ≡ O.faults out.old) }
-    ensures prefix { OnErr result (AppendsPrefix (O.written out.old) (O.written out.new) (numbered word.now number ++ more.now)) }
-    ensures failed { OnErr result (Rose (O.faults out.old) (O.faults out.new)) }
-    ensures never_falls { O.faults out.old ≤ O.faults out.new }
+/// A word, a number and another word.
+fn line_of_number(word: &str, number: u32, more: &str) -> Line
+    requires word { length word.now ≤ 30 }
+    requires more { length more.now ≤ 30 }
+    ensures { result.bytes ≡ numbered word.now number ++ more.now }
 {
-    put_numbered(out, word, number)?;
-    out.put(more)
+    let mut line = ArrayString::new();
+    push_numbered(&mut line, word, number);
+    line.push_str(more);
+    line
 }
 
-fn put_refused<O: Sink>(out: &mut O, at: Where, rule: Rule) -> Result<(), SinkFault>
-    ensures appended { OnOk result (O.written out.new ≡ append_known (O.written out.old) (refused_line at rule)) }
-    ensures counted { OnOk result (O.faults out.new ≡ O.faults out.old) }
-    ensures prefix { OnErr result (AppendsPrefix (O.written out.old) (O.written out.new) (refused_line at rule)) }
-    ensures failed { OnErr result (Rose (O.faults out.old) (O.faults out.new)) }
-    ensures never_falls { O.faults out.old ≤ O.faults out.new }
+/// A word and a place, another word, a name, and the end of the line.
+#[tactic(auto, using(crate::proofs::LineParts::parts))]
+fn line_of_place(word: &str, at: Where, more: &str, name: &str, end: &str) -> Line
+    requires word { length word.now ≤ 30 }
+    requires more { length more.now ≤ 30 }
+    requires name { length name.now ≤ 30 }
+    requires end { length end.now ≤ 30 }
+    ensures { result.bytes ≡ (word.now ++ where_text at) ++ (more.now ++ name.now ++ end.now) }
 {
-    put_place_and_more(out, b"refused: ", at, b": rule ", name_of(rule))
+    let mut line = ArrayString::new();
+    line.push_str(word);
+    push_place(&mut line, at);
+    push_words(&mut line, more, name, end);
+    line
 }
 
-/// Puts a word and a place, and the rest of the line.
-#[tactic(auto, using(xan_io::proofs::Puts::puts))]
-fn put_place_and_more<O: Sink>(
-    out: &mut O,
-    word: &[u8],
-    at: Where,
-    more: &[u8],
-    name: &[u8],
-) -> Result<(), SinkFault>
-    ensures appended { OnOk result (O.written out.new ≡ append_known (O.written out.old) ((word.now ++ where_text at) ++ (more.now ++ name.now ++ codes "\n"))) }
-    ensures counted { OnOk result (O.faults out.new ≡ O.faults out.old) }
-    ensures prefix { OnErr result (AppendsPrefix (O.written out.old) (O.written out.new) ((word.now ++ where_text at) ++ (more.now ++ name.now ++ codes "\n"))) }
-    ensures failed { OnErr result (Rose (O.faults out.old) (O.faults out.new)) }
-    ensures never_falls { O.faults out.old ≤ O.faults out.new }
+/// Adds three words.
+#[tactic(auto, using(crate::proofs::LineParts::parts))]
+fn push_words(line: &mut Line, first: &str, second: &str, third: &str)
+    requires line { length line.old.bytes ≤ 170 }
+    requires first { length first.now ≤ 30 }
+    requires second { length second.now ≤ 30 }
+    requires third { length third.now ≤ 30 }
+    ensures { line.new.bytes ≡ line.old.bytes ++ (first.now ++ second.now ++ third.now) }
 {
-    put_place(out, word, at)?;
-    put_line_of_two(out, more, name)
+    line.push_str(first);
+    line.push_str(second);
+    line.push_str(third);
 }
 
-/// Puts a word and a place.
-#[tactic(auto, using(xan_io::proofs::Puts::puts))]
-fn put_place<O: Sink>(out: &mut O, word: &[u8], at: Where) -> Result<(), SinkFault>
-    ensures appended { OnOk result (O.written out.new ≡ append_known (O.written out.old) (word.now ++ where_text at)) }
-    ensures counted { OnOk result (O.faults out.new ≡ O.faults out.old) }
-    ensures prefix { OnErr result (AppendsPrefix (O.written out.old) (O.written out.new) (word.now ++ where_text at)) }
-    ensures failed { OnErr result (Rose (O.faults out.old) (O.faults out.new)) }
-    ensures never_falls { O.faults out.old ≤ O.faults out.new }
-{
-    out.put(word)?;
-    put_where(out, at)
-}
-
-/// Puts two pieces and the end of a line.
-#[tactic(auto, using(xan_io::proofs::Puts::puts))]
-fn put_line_of_two<O: Sink>(out: &mut O, first: &[u8], second: &[u8]) -> Result<(), SinkFault>
-    ensures appended { OnOk result (O.written out.new ≡ append_known (O.written out.old) (first.now ++ second.now ++ codes "\n")) }
-    ensures counted { OnOk result (O.faults out.new ≡ O.faults out.old) }
-    ensures prefix { OnErr result (AppendsPrefix (O.written out.old) (O.written out.new) (first.now ++ second.now ++ codes "\n")) }
-    ensures failed { OnErr result (Rose (O.faults out.old) (O.faults out.new)) }
-    ensures never_falls { O.faults out.old ≤ O.faults out.new }
-{
-    put_two(out, first, second)?;
-    out.put(b"\n")
-}
-
-/// Puts which place of a program it is.
-fn put_where<O: Sink>(out: &mut O, at: Where) -> Result<(), SinkFault>
-    ensures appended { OnOk result (O.written out.new ≡ append_known (O.written out.old) (where_text at)) }
-    ensures counted { OnOk result (O.faults out.new ≡ O.faults out.old) }
-    ensures prefix { OnErr result (AppendsPrefix (O.written out.old) (O.written out.new) (where_text at)) }
-    ensures failed { OnErr result (Rose (O.faults out.old) (O.faults out.new)) }
-    ensures never_falls { O.faults out.old ≤ O.faults out.new }
+/// Adds which place of a program it is.
+fn push_place(line: &mut Line, at: Where)
+    requires { length line.old.bytes ≤ 30 }
+    ensures bytes { line.new.bytes ≡ line.old.bytes ++ where_text at }
+    ensures short { length line.new.bytes ≤ length line.old.bytes + 140 }
 {
     match at {
-        Where::Types(number) => put_numbered(out, b"type ", number),
-        Where::Signature(function) => put_numbered(out, b"function ", function),
-        Where::Program => out.put(b"program"),
-        Where::Label(function, label) => put_numbered_twice(
-            out,
-            b"function ",
-            function,
-            b" label ",
-            label,
-        ),
-        Where::Instr(function, number) => put_numbered_twice(
-            out,
-            b"function ",
-            function,
-            b" instruction ",
-            number,
-        ),
+        Where::Types(number) => push_numbered(line, "type ", number),
+        Where::Signature(function) => push_numbered(line, "function ", function),
+        Where::Program => line.push_str("program"),
+        Where::Label(function, label) => push_twice(line, "function ", function, " label ", label),
+        Where::Instr(function, number) => {
+            push_twice(line, "function ", function, " instruction ", number)
+        }
     }
 }
 
-/// Puts a word and a number, and another word and its number.
-#[tactic(auto, using(xan_io::proofs::Puts::puts))]
-fn put_numbered_twice<O: Sink>(
-    out: &mut O,
-    word: &[u8],
-    number: u32,
-    part: &[u8],
-    inner: u32,
-) -> Result<(), SinkFault>
-    ensures appended { OnOk result (O.written out.new ≡ append_known (O.written out.old) (numbered word.now number ++ numbered part.now inner)) }
-    ensures counted { OnOk result (O.faults out.new ≡ O.faults out.old) }
-    ensures prefix { OnErr result (AppendsPrefix (O.written out.old) (O.written out.new) (numbered word.now number ++ numbered part.now inner)) }
-    ensures failed { OnErr result (Rose (O.faults out.old) (O.faults out.new)) }
-    ensures never_falls { O.faults out.old ≤ O.faults out.new }
+/// Adds a word and a number, and another word and its number.
+#[tactic(auto, using(crate::proofs::LineParts::parts))]
+fn push_twice(line: &mut Line, word: &str, number: u32, part: &str, inner: u32)
+    requires line { length line.old.bytes ≤ 30 }
+    requires word { length word.now ≤ 30 }
+    requires part { length part.now ≤ 30 }
+    ensures bytes { line.new.bytes ≡ line.old.bytes ++ numbered word.now number ++ numbered part.now inner }
+    ensures short { length line.new.bytes ≤ length line.old.bytes + 140 }
 {
-    put_numbered(out, word, number)?;
-    put_numbered(out, part, inner)
+    push_numbered(line, word, number);
+    push_numbered(line, part, inner);
 }
 
-/// Puts two pieces as one.
-#[tactic(auto, using(xan_io::proofs::Puts::puts))]
-fn put_two<O: Sink>(out: &mut O, first: &[u8], second: &[u8]) -> Result<(), SinkFault>
-    ensures appended { OnOk result (O.written out.new ≡ append_known (O.written out.old) (first.now ++ second.now)) }
-    ensures counted { OnOk result (O.faults out.new ≡ O.faults out.old) }
-    ensures prefix { OnErr result (AppendsPrefix (O.written out.old) (O.written out.new) (first.now ++ second.now)) }
-    ensures failed { OnErr result (Rose (O.faults out.old) (O.faults out.new)) }
-    ensures never_falls { O.faults out.old ≤ O.faults out.new }
+/// Adds a word and a number behind it.
+#[tactic(auto, using(crate::proofs::LineParts::parts))]
+fn push_numbered(line: &mut Line, word: &str, number: u32)
+    requires line { length line.old.bytes ≤ 100 }
+    requires word { length word.now ≤ 30 }
+    ensures bytes { line.new.bytes ≡ line.old.bytes ++ numbered word.now number }
+    ensures short { length line.new.bytes ≤ length line.old.bytes + 70 }
 {
-    out.put(first)?;
-    out.put(second)
+    let mut buffer = Buffer::new();
+    line.push_str(word);
+    line.push_str(buffer.format(number));
 }
 
-fn name_of(rule: Rule) -> &'static [u8]
-    ensures { result.now ≡ rule_name rule }
+fn name_of(rule: Rule) -> &'static str
+    ensures name { result.now ≡ rule_name rule }
+    ensures short { length result.now ≤ 30 }
 {
     match rule {
-        Rule::Name => b"name",
-        Rule::Main => b"main",
-        Rule::Target => b"target",
-        Rule::NoType => b"type",
-        Rule::Place => b"place",
-        Rule::Count => b"count",
-        Rule::Kind => b"kind",
-        Rule::Alone => b"alone",
-        Rule::Edge => b"edge",
-        Rule::Form => b"form",
-        Rule::Size => b"size",
-        Rule::Lines => b"lines",
+        Rule::Name => "name",
+        Rule::Main => "main",
+        Rule::Target => "target",
+        Rule::NoType => "type",
+        Rule::Place => "place",
+        Rule::Count => "count",
+        Rule::Kind => "kind",
+        Rule::Alone => "alone",
+        Rule::Edge => "edge",
+        Rule::Form => "form",
+        Rule::Size => "size",
+        Rule::Lines => "lines",
     }
 }

@@ -1,13 +1,14 @@
-//! From a name to the accepted program that its text spells.
+//! From a name to the accepted program that its text spells: the passes in their order.
 
 ghost use Rattle.std.specs.Prelude.{◌≡◌, ℕ, List, IfOk, IfErr};
-ghost use Rattle.dtal_driver.specs.Causes.{Accepts, Refuses, AcceptsBytes, RefusesBytes};
+ghost use Rattle.xan_io.specs.Contents.{replaced};
+ghost use Rattle.dtal_driver.specs.Causes.{Accepts, Refuses};
 
 use crate::answer::Answer;
-use dtal_machine::{Verified, VerifyError, verify};
-use dtal_text::{StraightError, read_straight};
+use dtal_machine::{Verified, verify};
+use dtal_text::read_straight;
 use std::alloc::Global;
-use xan_io::{FileFault, FileRead, Files};
+use xan_io::{FileRead, Files};
 
 /// The greatest length of a text in bytes.
 const TEXT_MOST: u64 = 1_048_576;
@@ -22,26 +23,19 @@ pub fn accepted_program<F: Files>(
     ensures refused { IfErr result (Refuses (F.content files.old text.now) (F.read_faults files.old text.now) (F.read_faults files.new text.now)) }
     ensures unchanged { (name : List ℕ) → F.content files.new name ≡ F.content files.old name }
 {
-    match files.read(alloc, text, TEXT_MOST) {
-        Ok(FileRead::Whole(bytes)) => accepted_bytes(alloc, bytes.as_slice()),
-        Ok(FileRead::TooLong) => Err(Answer::NotBuilt),
-        Err(FileFault::Failed) => Err(Answer::ReadFailed),
-        Err(FileFault::Memory) => Err(Answer::Memory),
-    }
+    let bytes = read_text(alloc, files, text)?;
+    let program = read_straight(alloc, bytes.as_slice())?;
+    Ok(verify(alloc, program)?)
 }
 
-/// The accepted program of a text.
-fn accepted_bytes(alloc: Global, bytes: &[u8]) -> Result<Verified, Answer>
-    ensures accepted { IfOk result (AcceptsBytes bytes.now) }
-    ensures refused { IfErr result (RefusesBytes bytes.now) }
+/// The bytes of the text. A text that is too long is of no form that is built yet.
+fn read_text<F: Files>(alloc: Global, files: &mut F, text: &str) -> Result<Vec<u8>, Answer>
+    ensures whole { IfOk result (λ bytes. F.content files.old text.now ≡ replaced (F.content files.old text.now) bytes.items) }
+    ensures refused { IfErr result (Refuses (F.content files.old text.now) (F.read_faults files.old text.now) (F.read_faults files.new text.now)) }
+    ensures unchanged { (name : List ℕ) → F.content files.new name ≡ F.content files.old name }
 {
-    match read_straight(alloc, bytes) {
-        Ok(program) => match verify(alloc, program) {
-            Ok(verified) => Ok(verified),
-            Err(VerifyError::Refused { at, rule }) => Err(Answer::Refused { at, rule }),
-            Err(VerifyError::Memory) => Err(Answer::Memory),
-        },
-        Err(StraightError::Form) => Err(Answer::NotBuilt),
-        Err(StraightError::Memory) => Err(Answer::Memory),
+    match files.read(alloc, text, TEXT_MOST)? {
+        FileRead::Whole(bytes) => Ok(bytes),
+        FileRead::TooLong => Err(Answer::NotBuilt),
     }
 }

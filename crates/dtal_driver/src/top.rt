@@ -147,10 +147,8 @@ fn load_text<F: Files>(
     ensures loaded { IfOk result (IsLoadedFrom text.now args.now (F.content files.old text.now)) }
     ensures caused { IfErr result (λ answer. Cause (Some (Run text.now args.now)) (F.content files.old) (F.read_faults files.old) (F.read_faults files.new) (plain answer)) }
 {
-    match accepted_program(alloc, files, text) {
-        Ok(verified) => load(alloc, verified, args),
-        Err(answer) => Err(answer),
-    }
+    let program = accepted_program(alloc, files, text)?;
+    load(alloc, program, args)
 }
 
 /// The machine of a program, at the start of a run on these arguments, or the first fault of these. It takes all memory of the run.
