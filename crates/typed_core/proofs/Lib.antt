@@ -18,3 +18,9 @@ mod AlikeAnswers
 mod AlikeOperands
 mod AlikeStatements
 mod AlikeCalls
+pub mod GivenNamed
+pub mod NamedStates
+pub mod NamedOperands
+pub mod NamedJoins
+pub mod NamedStatements
+pub mod NamedPrograms

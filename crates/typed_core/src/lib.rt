@@ -14,6 +14,9 @@ mod proved;
 
 pub use crate::elaborated::Elaborated;
 pub use crate::goal::GoalAt;
-pub use crate::laws::{more_bound_changes_nothing, shaped_cores_fit};
+pub use crate::laws::{
+    more_bound_changes_nothing, shaped_cores_fit, shaped_cores_never_stray,
+    shaped_declarations_are_closed,
+};
 pub use crate::note::Note;
 pub use crate::proved::Proved;
