@@ -5,9 +5,12 @@ use Rattle.std.proofs.lemmas.List.Folds.{list_any-append}
 use Rattle.xan_lin.specs.Linear.{Linear}
 use Rattle.xan_lin.specs.declared.term.Term.{Term}
 use Rattle.proof_lines.specs.Variables.{is_among, with_terms}
-use Rattle.proof_lines.specs.Cells.{are_among}
+use Rattle.proof_lines.specs.Cells.{AreDifferent, are_among}
+use Rattle.proof_lines.proofs.Growing.{different-with_terms}
 use Rattle.proof_lines.proofs.Proper.{both, join, placed-with_terms, with_terms-placed}
+use Rattle.index_sorts.specs.Known.{no_terms}
 use Rattle.linear_solver.specs.Cone.{touches, reached, reached_in, cone}
+use Rattle.linear_solver.specs.Region.{AreClosed}
 use Rattle.linear_solver.proofs.Reaching.{Grows, row-grows, walk-grows, walks-grow, nothing_more, stays}
 
 first : (a b : Bool) → a ≡ true → (a || b) ≡ true
@@ -159,3 +162,35 @@ unfolding cone
 cone-start hyps start =
     among-grown (with_terms [] start.terms) (reached_in (length hyps) (with_terms [] start.terms) hyps) start.terms (walks-grow (length hyps) (with_terms [] start.terms) hyps)
     (placed-with_terms [] start.terms)
+
+-- a row with one of the variables, or with none at all, has no others
+bears-closed : (vs : List ℕ) (rows : List Linear) → Closed vs rows → AreClosed vs rows
+bears-closed vs [] c = tt
+bears-closed vs (row ∷ rows) c = ((λ h. go row.terms h c.0), bears-closed vs rows c.1)
+  where
+    go : (ts : List Term) → (no_terms ts || touches vs ts) ≡ true → (touches vs ts ≡ true → are_among vs ts ≡ true) → are_among vs ts ≡ true
+    go [] h k = refl
+    go (t ∷ ts) h k = k h
+
+pub cone-closes : (hyps : List Linear) (start : Linear) → AreClosed (cone hyps start) hyps
+cone-closes hyps start = bears-closed (cone hyps start) hyps (cone-closed hyps start)
+
+-- ---- the variables are different
+
+reached-different : (vs : List ℕ) (rows : List Linear) → AreDifferent vs → AreDifferent (reached vs rows)
+unfolding reached
+reached-different vs [] d = d
+reached-different vs (row ∷ rows) d = reached-different (cond (touches vs row.terms) (with_terms vs row.terms) vs) rows (go (touches vs row.terms))
+  where
+    go : (b : Bool) → AreDifferent (cond b (with_terms vs row.terms) vs)
+    go true = different-with_terms vs row.terms d
+    go false = d
+
+walks-different : (n : ℕ) (vs : List ℕ) (rows : List Linear) → AreDifferent vs → AreDifferent (reached_in n vs rows)
+unfolding reached_in
+walks-different zero vs rows d = d
+walks-different (suc n) vs rows d = walks-different n (reached vs rows) rows (reached-different vs rows d)
+
+pub cone-different : (hyps : List Linear) (start : Linear) → AreDifferent (cone hyps start)
+unfolding cone
+cone-different hyps start = walks-different (length hyps) (with_terms [] start.terms) hyps (different-with_terms [] start.terms tt)

@@ -1,5 +1,5 @@
 -- The walks that find the variables that bear on a row.
-use Rattle.std.proofs.Common.{◌≡◌, ℕ, zero, suc, ◌+◌, ◌-◌, ◌<◌, ◌≤◌, Bool, true, false, cond, nat_lt, List, [], ◌∷◌, ◌++◌, length, Option, MatchOption, Vec, Global, refl, sym, ◌∙◌, ap, subst, arith}
+use Rattle.std.proofs.Common.{◌≡◌, ℕ, zero, suc, ◌+◌, ◌-◌, ◌<◌, ◌≤◌, Bool, true, false, cond, nat_lt, List, [], ◌∷◌, ◌++◌, length, refl, sym, ◌∙◌, ap, subst, arith}
 use Rattle.std.proofs.lemmas.List.{append_assoc, append-nil, length-append}
 use Rattle.xan_lin.specs.Linear.{Linear}
 use Rattle.xan_lin.specs.declared.term.Term.{Term}
@@ -99,9 +99,3 @@ pub walks_all : (n at : ℕ) (vs whole : List ℕ) (rows : List Linear) → reac
 walks_all n at vs whole rows e h =
     let none : n - at ≡ 0 = omega arith in
     sym (none_left vs rows) ∙ ap (λ k. reached_in k vs rows) (sym none) ∙ e
-
--- the variables, where they are few, of a list that is this one
-pub few_of : (found : Option (Vec ℕ Global)) (vs whole : List ℕ) → vs ≡ whole
-    → MatchOption found (nat_lt 64 (length vs) ≡ true) (λ same. (same.items ≡ vs) × (length same.items ≤ 64))
-    → MatchOption found (nat_lt 64 (length whole) ≡ true) (λ same. (same.items ≡ whole) × (length same.items ≤ 64))
-few_of found vs whole e m = subst (λ (ws : List ℕ). MatchOption found (nat_lt 64 (length ws) ≡ true) (λ same. (same.items ≡ ws) × (length same.items ≤ 64))) e m

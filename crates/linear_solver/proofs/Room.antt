@@ -29,7 +29,7 @@ placed-more (s ∷ rows) r = go (same_terms s.terms r.terms) (placed-more rows r
     go true h = omega arith
     go false h = omega arith
 
-settle-more : (rows : List Row) (r : Row) → length (settle rows r) ≤ length rows + 1
+pub settle-more : (rows : List Row) (r : Row) → length (settle rows r) ≤ length rows + 1
 unfolding settle
 settle-more rows r = go (holds r) (placed-more rows r)
   where
@@ -87,7 +87,7 @@ next-few var rows out h e =
     let start = reduced-more [] (with_sign Zero var rows) in
     all-few var (with_sign Positive var rows) (with_sign Negative var rows) (reduced_onto [] (with_sign Zero var rows)) out (omega arith) e
 
-taken-few : (vars : List ℕ) (rows : List Row) (var : ℕ) → look_at vars rows ≡ Take var → length rows ≤ 2000
+pub taken-few : (vars : List ℕ) (rows : List Row) (var : ℕ) → look_at vars rows ≡ Take var → length rows ≤ 2000
 unfolding look_at
 taken-few vars rows var e = go (nat_lt 2000 (length rows)) refl e
   where
@@ -102,7 +102,7 @@ next_few vars rows seen seen_too out look var same is take same_too e =
     let few = taken-few vars seen var (sym is ∙ take) in
     next-few var seen_too out (omega (arith, few, ap length same, ap length same_too)) e
 
-hyps-more : (vars : List ℕ) (at : ℕ) (rows : List Linear) (made : List Row) → length (with_hyps vars at rows made) ≤ length made + length rows
+pub hyps-more : (vars : List ℕ) (at : ℕ) (rows : List Linear) (made : List Row) → length (with_hyps vars at rows made) ≤ length made + length rows
 unfolding with_hyps
 hyps-more vars at [] made = omega arith
 hyps-more vars at (row ∷ rows) made = go (bears vars row) (hyps-more vars (suc at) rows)

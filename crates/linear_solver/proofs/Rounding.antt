@@ -2,8 +2,7 @@
 use Rattle.std.proofs.Common.{◌≡◌, ℕ, zero, suc, ◌+◌, ◌-◌, ◌<◌, ◌≤◌, List, [], Result, Ok, Err, refl, sym, ◌∙◌, ap, subst, arith}
 use Rattle.linear_solver.specs.declared.answer.Answer.{Answer}
 use Rattle.linear_solver.specs.declared.step.Step.{Step}
-use Rattle.linear_solver.specs.declared.stop.Stop.{Stop}
-use Rattle.linear_solver.specs.declared.stop.Stop.TheVariants as stop
+use Rattle.xan_lin.specs.declared.term.LimitKind.{LimitKind}
 use Rattle.linear_solver.specs.declared.source.Look.{Look}
 use Rattle.linear_solver.specs.declared.source.Look.TheVariants.{Full, Refuted, Spent, Take}
 use Rattle.linear_solver.specs.Systems.{Row, next_rows}
@@ -43,7 +42,7 @@ ends zero vars steps rows h = no_round vars steps rows
 ends (suc n) vars steps rows h = one_round n vars steps rows ∙ not_taken steps (look_at vars rows) (goes n vars steps rows) h
 
 -- a look that takes no variable ends the elimination
-pub rounds_end : (n : ℕ) (vars : List ℕ) (steps after : List Step) (rows seen : List Row) (look other : Look) (result : Result Answer Stop) (whole : Result (List Step) Answer)
+pub rounds_end : (n : ℕ) (vars : List ℕ) (steps after : List Step) (rows seen : List Row) (look other : Look) (result : Result Answer LimitKind) (whole : Result (List Step) Answer)
     → rounds n vars steps rows ≡ whole → seen ≡ rows → look ≡ look_at vars seen → other ≡ look → ((v : ℕ) → look ≡ Take v → ⊥) → Answers result after (ended steps other)
     → Answers result after whole
 rounds_end n vars steps after rows seen look other result whole e same is other_is h a =
@@ -52,7 +51,7 @@ rounds_end n vars steps after rows seen look other result whole e same is other_
     (ap (λ l. ended steps l) (other_is ∙ found) ∙ sym (ends n vars steps rows (λ v f. h v (found ∙ f))) ∙ e) a
 
 -- the last look
-pub rounds_last : (at : ℕ) (vars : List ℕ) (steps after : List Step) (rows seen : List Row) (look : Look) (result : Result Answer Stop) (whole : Result (List Step) Answer)
+pub rounds_last : (at : ℕ) (vars : List ℕ) (steps after : List Step) (rows seen : List Row) (look : Look) (result : Result Answer LimitKind) (whole : Result (List Step) Answer)
     → rounds (64 - at) vars steps rows ≡ whole → 64 ≤ at → seen ≡ rows → look ≡ look_at vars seen → Answers result after (ended steps look) → Answers result after whole
 rounds_last at vars steps after rows seen look result whole e h same is a =
     let none : 64 - at ≡ 0 = omega arith in
@@ -68,13 +67,12 @@ takes at vars steps rows seen look var whole e h same is take =
     sym (one_round (64 - (at + 1)) vars steps rows ∙ ap (λ l. after_look steps l (goes (64 - (at + 1)) vars steps rows)) found)
     ∙ ap (λ n. rounds n vars steps rows) (sym next) ∙ e
 
-fails_with : (more : ℕ) (vars : List ℕ) (steps after : List Step) (rows made : List Row) (var : ℕ) (why : Stop) (whole : Result (List Step) Answer)
+fails_with : (more : ℕ) (vars : List ℕ) (steps after : List Step) (rows made : List Row) (var : ℕ) (why : LimitKind) (whole : Result (List Step) Answer)
     → goes more vars steps rows var ≡ whole → Gives (Err why) made (next_rows var rows) → Answers (Err why) after whole
 unfolding goes
-fails_with more vars steps after rows made var (stop.Limit kind) whole e g = sym e ∙ ap (λ r. after_rows r (λ made. rounds more vars (numbered steps [] made).steps (numbered steps [] made).rows)) g
-fails_with more vars steps after rows made var stop.Memory whole e g = tt
+fails_with more vars steps after rows made var why whole e g = sym e ∙ ap (λ r. after_rows r (λ made. rounds more vars (numbered steps [] made).steps (numbered steps [] made).rows)) g
 
-pub rounds_fail : (at : ℕ) (vars : List ℕ) (steps after : List Step) (rows seen seen_too made : List Row) (look : Look) (var : ℕ) (why : Stop) (whole : Result (List Step) Answer)
+pub rounds_fail : (at : ℕ) (vars : List ℕ) (steps after : List Step) (rows seen seen_too made : List Row) (look : Look) (var : ℕ) (why : LimitKind) (whole : Result (List Step) Answer)
     → rounds (64 - at) vars steps rows ≡ whole → at < 64 → seen ≡ rows → look ≡ look_at vars seen → look ≡ Take var → seen_too ≡ rows
     → Gives (Err why) made (next_rows var seen_too) → Answers (Err why) after whole
 rounds_fail at vars steps after rows seen seen_too made look var why whole e h same is take same_too g =

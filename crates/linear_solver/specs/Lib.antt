@@ -7,6 +7,8 @@ pub mod Cone
 pub mod Elimination
 pub mod Meaning
 pub mod Merging
+pub mod Region
 pub mod Buffers
+pub mod LineBuffers
 pub mod Reducing
 pub mod Solving

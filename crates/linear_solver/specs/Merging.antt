@@ -15,18 +15,6 @@ abbrev pub behind : ℕ → List Term → List Term
 behind var [] = []
 behind var (t ∷ ts) = if t.var == var then ts else t ∷ ts
 
--- the lesser variable of the two first terms
-abbrev pub front_variable : List Term → List Term → ℕ
-front_variable [] [] = 0
-front_variable [] (u ∷ us) = u.var
-front_variable (t ∷ ts) [] = t.var
-front_variable (t ∷ ts) (u ∷ us) = if nat_lt u.var t.var then u.var else t.var
-
 -- the sum of two lists of terms, each times a number
 abbrev pub combined_terms : ℤ → List Term → ℤ → List Term → List Term
 combined_terms a ts b us = sum_terms (scaled_terms ts a) (scaled_terms us b)
-
--- what holds of every row of a system
-pub record IsRow (row : Row) : Type 0 where
-  pub rising : IsRising 0 row.terms
-  pub small : IsTrue (all_within row.terms)

@@ -1,10 +1,8 @@
 -- Reduced rows: no two have equal coefficients. And what comes of a pass that may stop: no part of the promise.
-use Rattle.std.specs.Prelude.{◌≡◌, ℕ, ◌<◌, length, true, false, Option, Some, None, List, [], ◌∷◌, Result, Ok, Err}
+use Rattle.std.specs.Prelude.{◌≡◌, ℕ, ◌<◌, length, false, true, List, [], ◌∷◌, Result, Ok, Err}
 use Rattle.std.specs.List.{list_any, slice_index_or}
 use Rattle.xan_lin.specs.declared.term.Term.{Term}
 use Rattle.xan_lin.specs.declared.term.LimitKind.{LimitKind}
-use Rattle.linear_solver.specs.declared.stop.Stop.{Stop}
-use Rattle.linear_solver.specs.declared.stop.Stop.TheVariants.{Limit, Memory}
 use Rattle.linear_solver.specs.Systems.{Row, same_terms, tight, sum_of_two, sum_source}
 use Rattle.xan_lin.specs.Linear.{are_within}
 
@@ -13,16 +11,10 @@ abbrev pub AreDistinct : List Row → Type 0
 AreDistinct [] = Unit {0}
 AreDistinct (r ∷ rows) = (list_any (λ s. same_terms s.terms r.terms) rows ≡ false) × AreDistinct rows
 
--- the pass leaves what the definition gives, or stops at the same limit, or memory ran out
-abbrev pub Gives : Result (Unit {0}) Stop → List Row → Result (List Row) LimitKind → Type 0
+-- the pass leaves what the definition gives, or stops at the same limit
+abbrev pub Gives : Result (Unit {0}) LimitKind → List Row → Result (List Row) LimitKind → Type 0
 Gives (Ok _) after wanted = wanted ≡ Ok after
-Gives (Err (Limit kind)) after wanted = wanted ≡ Err kind
-Gives (Err Memory) after wanted = Unit {0}
-
--- the tightened sum of two rows, where its numbers are within the bound before
-abbrev pub IsSummed : Option Row → ℕ → ℕ → Row → Row → Type 0
-IsSummed None a b p n = are_within (sum_of_two a b p n).terms (sum_of_two a b p n).constant ≡ false
-IsSummed (Some r) a b p n = (are_within (sum_of_two a b p n).terms (sum_of_two a b p n).constant ≡ true) × (r ≡ tight (sum_source a b p n) (sum_of_two a b p n))
+Gives (Err kind) after wanted = wanted ≡ Err kind
 
 -- the row at this place has these coefficients
 abbrev pub IsPlace : List Row → List Term → ℕ → Type 0

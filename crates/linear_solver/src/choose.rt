@@ -1,10 +1,14 @@
 //! What a look at a system shows.
 ghost use Rattle.std.specs.Prelude.{◌≡◌, ◌≤◌, ◌<◌, ◌^◌, length, None};
-ghost use Rattle.linear_solver.specs.Choosing.{is_before, better, choice_of, candidate, best_from, refuted_by, look_at};
+ghost use Rattle.linear_solver.specs.Choosing.{is_before, better, choice_of, candidate, best_from, refuted_by, look_at, cannot_hold};
+ghost use Rattle.std.specs.List.{slice_index_or};
+ghost use Rattle.linear_solver.specs.Systems.{with_sign};
+ghost use Rattle.linear_solver.specs.declared.source.Sign.TheVariants.{Positive, Negative};
+ghost use Rattle.linear_solver.specs.Region.{no_row};
 
-use crate::row::SystemRow;
-use crate::select::count_with_sign;
-use crate::source::{Look, Sign};
+use crate::cells::{constant_of, has_no_coefficient};
+use crate::source::Look;
+use crate::workspace::Workspace;
 
 /// The most rows of a system.
 pub(crate) const MOST_ROWS: usize = 2000;
@@ -16,18 +20,18 @@ pub(crate) struct Choice {
     pub(crate) pairs: u64,
 }
 
-/// What a look at a system shows, whose variables are among these.
+/// What a look at the system shows.
 #[tactic(auto, unfolding(crate::specs::Choosing::look_at))]
-pub(crate) fn look_at(vars: &[u32], rows: &[SystemRow]) -> Look
-    ensures { result ≡ look_at vars.now rows.now }
+pub(crate) fn look_at(work: &Workspace) -> Look
+    ensures { result ≡ look_at work.now.vars work.now.rows }
 {
-    if rows.len() > MOST_ROWS {
+    if work.count() > MOST_ROWS {
         return Look::Full;
     }
-    if let Some(line) = refuted_by(rows) {
+    if let Some(line) = refuted_by(work) {
         return Look::Refuted(line);
     }
-    match best(vars, rows) {
+    match best(work) {
         Some(choice) => Look::Take(choice.var),
         None => Look::Spent,
     }
@@ -35,15 +39,24 @@ pub(crate) fn look_at(vars: &[u32], rows: &[SystemRow]) -> Look
 
 // The step that gives the first row that cannot hold.
 #[tactic(auto, unfolding(crate::specs::Choosing::refuted_by))]
-fn refuted_by(rows: &[SystemRow]) -> Option<u32>
-    ensures { result ≡ refuted_by rows.now }
+fn refuted_by(work: &Workspace) -> Option<u32>
+    ensures { result ≡ refuted_by work.now.rows }
 {
-    'rows: for row in rows {
-        if row.cannot_hold() {
-            return Some(row.line());
+    'rows: for at in 0..work.count() {
+        if cannot_hold(work, at) {
+            return Some(work.line(at));
         }
     }
     None
+}
+
+// Whether a row has no variable and its constant is negative.
+fn cannot_hold(work: &Workspace, at: usize) -> bool
+    requires { at < length work.now.rows }
+    ensures { result ≡ cannot_hold (slice_index_or work.now.rows at no_row) }
+{
+    let cells = work.cells(at);
+    has_no_coefficient(cells) && *constant_of(cells) < 0
 }
 
 // The choice of a variable that so many rows have, and 0 rows do not.
@@ -61,15 +74,44 @@ fn choice_of(var: u32, positive: usize, negative: usize) -> Option<Choice>
     })
 }
 
-// The choice of this variable, where the system has it.
+// The choice of the variable of this column, where the system has it.
 #[tactic(auto, unfolding(crate::specs::Choosing::candidate))]
-fn candidate(var: u32, rows: &[SystemRow]) -> Option<Choice>
-    requires { length rows.now ≤ 2000 }
-    ensures { result ≡ candidate var rows.now }
+fn candidate(work: &Workspace, column: usize) -> Option<Choice>
+    requires few { length work.now.rows ≤ 2000 }
+    requires column { column < length work.now.vars }
+    ensures { result ≡ candidate (slice_index_or work.now.vars column 0) work.now.rows }
 {
-    let positive = count_with_sign(rows, Sign::Positive, var);
-    let negative = count_with_sign(rows, Sign::Negative, var);
-    choice_of(var, positive, negative)
+    let counts = counts_of(work, column);
+    choice_of(work.vars()[column], counts.positive, counts.negative)
+}
+
+// How many rows have a positive coefficient, and how many a negative one.
+#[derive(Drop)]
+struct Counts {
+    positive: usize,
+    negative: usize,
+}
+
+// The counts of the variable of this column.
+#[tactic(auto, unfolding(crate::specs::Systems::with_sign))]
+fn counts_of(work: &Workspace, column: usize) -> Counts
+    requires few { length work.now.rows ≤ 2000 }
+    requires column { column < length work.now.vars }
+    ensures positive { result.positive ≡ length (with_sign Positive (slice_index_or work.now.vars column 0) work.now.rows) }
+    ensures negative { result.negative ≡ length (with_sign Negative (slice_index_or work.now.vars column 0) work.now.rows) }
+{
+    let mut positive = 0usize;
+    let mut negative = 0usize;
+    'rows: for at in 0..work.count() {
+        let coefficient = work.coefficient(at, column);
+        if *coefficient > 0 {
+            positive += 1;
+        }
+        if *coefficient < 0 {
+            negative += 1;
+        }
+    }
+    Counts { positive, negative }
 }
 
 // Whether the first choice comes before the second.
@@ -92,17 +134,16 @@ fn better(best: Option<Choice>, next: Option<Choice>) -> Option<Choice>
     if is_before(other, choice) { next } else { best }
 }
 
-// The best choice of these variables.
+// The best choice of the variables.
 #[tactic(auto, unfolding(crate::specs::Choosing::best_from))]
-fn best(vars: &[u32], rows: &[SystemRow]) -> Option<Choice>
-    requires { length rows.now ≤ 2000 }
-    ensures { result ≡ best_from rows.now None vars.now }
+fn best(work: &Workspace) -> Option<Choice>
+    requires { length work.now.rows ≤ 2000 }
+    ensures { result ≡ best_from work.now.rows None work.now.vars }
 {
+    let count = work.vars().len();
     let mut best = None;
-    let mut rest = vars;
-    'vars: while let [var, later @ ..] = rest {
-        best = better(best, candidate(*var, rows));
-        rest = later;
+    'columns: for column in 0..count {
+        best = better(best, candidate(work, column));
     }
     best
 }

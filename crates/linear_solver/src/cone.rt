@@ -1,72 +1,66 @@
 //! The variables that bear on a row.
-ghost use Rattle.std.specs.Prelude.{◌≡◌, ◌≤◌, ◌<◌, length, nat_lt, true, IfOk, MatchOption, if◌then◌else◌};
+ghost use Rattle.std.specs.Prelude.{◌≡◌, ◌+◌, ◌*◌, ◌≤◌, ◌<◌, length, nat_lt, true, false, IsTrue, if◌then◌else◌, vec_capacity};
 ghost use Rattle.proof_lines.specs.Variables.{is_among, with_variable, with_terms};
 ghost use Rattle.linear_solver.specs.Cone.{touches, reached, cone};
 
-use std::alloc::{AllocError, Global};
 use xan_lin::{Form, Term};
 
 /// The most variables that may bear on a goal.
 pub(crate) const MOST_VARIABLES: usize = 64;
 
-/// The variables that bear on a row: its own, and with a variable of a hypothesis all of that hypothesis. `None` comes where they are
-/// more than 64.
+/// Leaves the variables that bear on a row: its own, and with a variable of a hypothesis all of that hypothesis. It is false where they are
+/// more than 64, and then what is left is open.
 #[tactic(auto, unfolding(crate::specs::Cone::cone))]
-pub(crate) fn cone(
-    alloc: Global,
-    hyps: &[Form],
-    start: &Form,
-) -> Result<Option<Vec<u32>>, AllocError>
-    ensures { IfOk result (λ found. MatchOption found (nat_lt 64 (length (cone hyps.now start.now)) ≡ true)
-        (λ vars. (vars.items ≡ cone hyps.now start.now) × (length vars.items ≤ 64))) }
+pub(crate) fn find_cone(hyps: &[Form], start: &Form, vars: &mut Vec<u32>) -> bool
+    requires few { length hyps.now ≤ 512 }
+    requires room { 8272 ≤ vec_capacity vars.old }
+    ensures found { IsTrue result → vars.new.items ≡ cone hyps.now start.now }
+    ensures few { IsTrue result → length vars.new.items ≤ 64 }
+    ensures many { result ≡ false → nat_lt 64 (length (cone hyps.now start.now)) ≡ true }
+    ensures capacity { vec_capacity vars.old ≤ vec_capacity vars.new }
 {
-    let mut vars = Vec::new(alloc);
-    add_terms(&mut vars, start.terms())?;
+    vars.clear();
+    add_terms(vars, start.terms());
     'walks: for _walk in 0..hyps.len() {
         if vars.len() > MOST_VARIABLES {
-            return Ok(None);
+            return false;
         }
         let before = vars.len();
-        reach(&mut vars, hyps)?;
+        reach(vars, hyps);
         if vars.len() == before {
-            return Ok(few(vars));
+            return true;
         }
     }
-    Ok(few(vars))
-}
-
-// The variables, where they are no more than 64.
-fn few(vars: Vec<u32>) -> Option<Vec<u32>>
-    ensures { MatchOption result (nat_lt 64 (length vars.items) ≡ true) (λ same. (same.items ≡ vars.items) × (length same.items ≤ 64)) }
-{
     if vars.len() > MOST_VARIABLES {
-        None
-    } else {
-        Some(vars)
+        return false;
     }
+    true
 }
 
 // Adds the variables of each row that has one of them, in one walk over the rows.
 #[tactic(auto, unfolding(crate::specs::Cone::reached))]
-fn reach(vars: &mut Vec<u32>, rows: &[Form]) -> Result<(), AllocError>
-    ensures { IfOk result (λ _. vars.new.items ≡ reached vars.old.items rows.now) }
+fn reach(vars: &mut Vec<u32>, rows: &[Form])
+    requires { length vars.old.items + 16 * length rows.now ≤ vec_capacity vars.old }
+    ensures items { vars.new.items ≡ reached vars.old.items rows.now }
+    ensures capacity { vec_capacity vars.old ≤ vec_capacity vars.new }
 {
     let mut rest = rows;
     'rows: while let [row, later @ ..] = rest {
-        reach_row(vars, row.terms())?;
+        reach_row(vars, row.terms());
         rest = later;
     }
-    Ok(())
 }
 
 // Adds the variables of these terms, where one of them is there.
-fn reach_row(vars: &mut Vec<u32>, terms: &[Term]) -> Result<(), AllocError>
-    ensures { IfOk result (λ _. vars.new.items ≡ (if touches vars.old.items terms.now then with_terms vars.old.items terms.now else vars.old.items)) }
+fn reach_row(vars: &mut Vec<u32>, terms: &[Term])
+    requires { length vars.old.items + length terms.now ≤ vec_capacity vars.old }
+    ensures items { vars.new.items ≡ (if touches vars.old.items terms.now then with_terms vars.old.items terms.now else vars.old.items) }
+    ensures few { length vars.new.items ≤ length vars.old.items + length terms.now }
+    ensures capacity { vec_capacity vars.old ≤ vec_capacity vars.new }
 {
     if touches(vars.as_slice(), terms) {
-        add_terms(vars, terms)?;
+        add_terms(vars, terms);
     }
-    Ok(())
 }
 
 /// Whether one of the terms has one of the variables.
@@ -85,23 +79,29 @@ fn is_among(var: u32, vars: &[u32]) -> bool
 
 // Adds the variables of these terms.
 #[tactic(auto, unfolding(proof_lines::specs::Variables::with_terms))]
-fn add_terms(vars: &mut Vec<u32>, terms: &[Term]) -> Result<(), AllocError>
-    ensures { IfOk result (λ _. vars.new.items ≡ with_terms vars.old.items terms.now) }
+fn add_terms(vars: &mut Vec<u32>, terms: &[Term])
+    requires { length vars.old.items + length terms.now ≤ vec_capacity vars.old }
+    ensures items { vars.new.items ≡ with_terms vars.old.items terms.now }
+    ensures few { length vars.new.items ≤ length vars.old.items + length terms.now }
+    ensures capacity { vec_capacity vars.old ≤ vec_capacity vars.new }
 {
     let mut rest = terms;
     'terms: while let [term, later @ ..] = rest {
-        add_variable(vars, term.var)?;
+        add_variable(vars, term.var);
         rest = later;
     }
-    Ok(())
 }
 
 // Adds the variable, unless it is there.
-fn add_variable(vars: &mut Vec<u32>, var: u32) -> Result<(), AllocError>
-    ensures { IfOk result (λ _. vars.new.items ≡ with_variable vars.old.items var) }
+fn add_variable(vars: &mut Vec<u32>, var: u32)
+    requires { length vars.old.items < vec_capacity vars.old }
+    ensures items { vars.new.items ≡ with_variable vars.old.items var }
+    ensures few { length vars.new.items ≤ length vars.old.items + 1 }
+    ensures capacity { vec_capacity vars.old ≤ vec_capacity vars.new }
 {
     if !is_among(var, vars.as_slice()) {
-        vars.push(var)?;
+        let Ok(()) = vars.push(var) else {
+            unreachable!()
+        };
     }
-    Ok(())
 }

@@ -1,10 +1,9 @@
 //! Greatest common divisors.
-ghost use Rattle.std.specs.Prelude.{◌≡◌, ◌^◌, ◌<◌, ◌/◌, pos, IsTrue, unsigned_abs};
+ghost use Rattle.std.specs.Prelude.{◌≡◌, ◌^◌, ◌<◌, ◌/◌, ◌+◌, length, pos, IsTrue, unsigned_abs};
 ghost use Rattle.xan_lin.specs.Linear.{all_within};
 ghost use Rattle.linear_solver.specs.Divisors.{gcd, divisor};
 ghost use Rattle.linear_solver.specs.Systems.{first_by, second_by};
-
-use xan_lin::Term;
+ghost use Rattle.linear_solver.specs.Region.{linear_in, cells_divisor, numbers_divisor};
 
 /// The greatest common divisor.
 pub(crate) fn gcd(left: u64, right: u64) -> u64
@@ -20,26 +19,41 @@ pub(crate) fn gcd(left: u64, right: u64) -> u64
     a
 }
 
-/// The greatest common divisor of the coefficients, and 0 where there are none.
-#[tactic(auto, unfolding(crate::specs::Divisors::divisor_from))]
-pub(crate) fn divisor(terms: &[Term]) -> u64
-    ensures { result ≡ divisor terms.now }
+// The greatest common divisor of the coefficients of a row, and 0 where there are none.
+fn divisor(cells: &[i64]) -> u64
+    ensures { result ≡ cells_divisor cells.now }
+{
+    let [_constant, coefficients @ ..] = cells else {
+        return 0;
+    };
+    divisor_of_all(coefficients)
+}
+
+// The greatest common divisor of the numbers. One of 1 stays.
+#[tactic(auto, unfolding(crate::specs::Region::numbers_divisor))]
+fn divisor_of_all(numbers: &[i64]) -> u64
+    ensures { result ≡ numbers_divisor 0 numbers.now }
 {
     let mut found = 0;
-    let mut rest = terms;
-    'terms: while let [term, later @ ..] = rest {
-        found = gcd(found, term.coef.unsigned_abs());
+    let mut rest = numbers;
+    'numbers: while let [number, later @ ..] = rest {
+        if found == 1 {
+            return 1;
+        }
+        found = gcd(found, number.unsigned_abs());
         rest = later;
     }
     found
 }
 
 /// The greatest common divisor of coefficients within the bound of forms.
-pub(crate) fn signed_divisor(terms: &[Term]) -> i64
-    requires { IsTrue (all_within terms.now) }
-    ensures { result ≡ pos (divisor terms.now) }
+pub(crate) fn signed_divisor(vars: &[u32], cells: &[i64]) -> i64
+    requires wide { length cells.now ≡ length vars.now + 1 }
+    requires small { IsTrue (all_within (linear_in vars.now cells.now).terms) }
+    ensures { result ≡ pos (divisor (linear_in vars.now cells.now).terms) }
 {
-    let common = divisor(terms);
+    let _count = vars.len();
+    let common = divisor(cells);
     signed(common)
 }
 

@@ -1,66 +1,68 @@
 //! The first system.
-ghost use Rattle.std.specs.Prelude.{◌≡◌, ◌≤◌, [], length, IfOk, OnOk, if◌then◌else◌};
+ghost use Rattle.std.specs.Prelude.{◌≡◌, ◌≤◌, ◌+◌, ◌++◌, ◌<◌, [], ◌∷◌, length, IsTrue, pos, true, if◌then◌else◌};
+ghost use Rattle.xan_lin.specs.Linear.{all_within};
+ghost use Rattle.xan_lin.specs.Terms.{IsRising};
+ghost use Rattle.proof_lines.specs.Cells.{are_among};
 ghost use Rattle.linear_solver.specs.declared.step.Step.TheVariants.{Hyp};
 ghost use Rattle.linear_solver.specs.declared.source.Source.TheVariants.{New};
 ghost use Rattle.linear_solver.specs.Systems.{tight, settle};
 ghost use Rattle.linear_solver.specs.Elimination.{bears, with_hyps, first_rows};
+ghost use Rattle.linear_solver.specs.Region.{AreRising, AreClosed, HasRoom, linear_in, row_in, spread_cells};
+ghost use Rattle.linear_solver.specs.Merging.{front_coefficient, behind};
+ghost use Rattle.arrayvec.specs.ArrayVec.{array_vec_len};
 
+use crate::cells::Cells;
 use crate::cone::touches;
-use crate::reduced::Reduced;
-use crate::row::SystemRow;
 use crate::source::Source;
 use crate::step::Step;
-use std::alloc::{AllocError, Global};
-use xan_lin::Form;
+use crate::tight::{NewRow, tight};
+use crate::workspace::Workspace;
+use arrayvec::ArrayVec;
+use xan_lin::{Form, Term};
 
-/// The first system: the hypotheses that bear on the goal, and the opposite of the goal.
+/// Makes the first system: the hypotheses that bear on the goal, and the opposite of the goal.
 #[tactic(auto, unfolding(crate::specs::Elimination::first_rows))]
-pub(crate) fn first_rows(
-    alloc: Global,
-    vars: &[u32],
-    hyps: &[Form],
-    start: &Form,
-    made: &mut Reduced,
-) -> Result<(), AllocError>
+pub(crate) fn first_rows(hyps: &[Form], start: &Form, work: &mut Workspace)
     requires few { length hyps.now ≤ 512 }
-    requires empty { made.old ≡ [] }
-    ensures { OnOk result (made.new ≡ first_rows vars.now hyps.now start.now) }
+    requires closed { AreClosed work.old.vars hyps.now }
+    requires among { are_among work.old.vars start.now.terms ≡ true }
+    requires none { work.old.rows ≡ [] }
+    requires empty { work.old.made ≡ [] }
+    requires room { HasRoom work.old }
+    ensures { work.new ≡ record work.old { made = first_rows work.old.vars hyps.now start.now } }
 {
-    with_hyps(alloc, vars, hyps, made)?;
-    made.settle(row_of(alloc, start, Source::New(Step::Goal))?)
+    with_hyps(hyps, work);
+    let row = row_of(work.vars(), start, Source::New(Step::Goal));
+    work.settle(&row);
 }
 
 // Puts the hypotheses that bear on the goal.
 #[tactic(auto, unfolding(crate::specs::Elimination::with_hyps))]
-fn with_hyps(
-    alloc: Global,
-    vars: &[u32],
-    hyps: &[Form],
-    made: &mut Reduced,
-) -> Result<(), AllocError>
-    requires { length hyps.now ≤ 512 }
-    ensures { OnOk result (made.new ≡ with_hyps vars.now 0 hyps.now made.old) }
+fn with_hyps(hyps: &[Form], work: &mut Workspace)
+    requires few { length hyps.now ≤ 512 }
+    requires closed { AreClosed work.old.vars hyps.now }
+    requires none { work.old.rows ≡ [] }
+    requires empty { work.old.made ≡ [] }
+    requires room { HasRoom work.old }
+    ensures { work.new ≡ record work.old { made = with_hyps work.old.vars 0 hyps.now [] } }
 {
     'rows: for (at, row) in hyps.iter().enumerate() {
-        with_hyp(alloc, vars, at as u32, row, made)?;
+        with_hyp(at as u32, row, work);
     }
-    Ok(())
 }
 
 // Puts the hypothesis of this number, where it bears on the goal.
-fn with_hyp(
-    alloc: Global,
-    vars: &[u32],
-    at: u32,
-    row: &Form,
-    made: &mut Reduced,
-) -> Result<(), AllocError>
-    ensures { OnOk result (made.new ≡ (if bears vars.now row.now then settle made.old (tight (New (Hyp at)) row.now) else made.old)) }
+fn with_hyp(at: u32, row: &Form, work: &mut Workspace)
+    requires closed { bears work.old.vars row.now ≡ true → are_among work.old.vars row.now.terms ≡ true }
+    requires none { length work.old.rows ≤ 2000 }
+    requires few { length work.old.made ≤ 2000 }
+    requires room { HasRoom work.old }
+    ensures { work.new ≡ record work.old { made = (if bears work.old.vars row.now then settle work.old.made (tight (New (Hyp at)) row.now) else work.old.made) } }
 {
-    if bears(vars, row) {
-        made.settle(row_of(alloc, row, Source::New(Step::Hyp(at)))?)?;
+    if bears(work.vars(), row) {
+        let row = row_of(work.vars(), row, Source::New(Step::Hyp(at)));
+        work.settle(&row);
     }
-    Ok(())
 }
 
 // Whether the hypothesis bears on the goal.
@@ -71,9 +73,58 @@ fn bears(vars: &[u32], row: &Form) -> bool
 }
 
 // The tightened row of a form.
-fn row_of(alloc: Global, form: &Form, source: Source) -> Result<SystemRow, AllocError>
-    ensures { IfOk result (λ row. row ≡ tight source form.now) }
+fn row_of(vars: &[u32], form: &Form, source: Source) -> NewRow
+    requires rising { AreRising 0 vars.now }
+    requires few { length vars.now ≤ 64 }
+    requires among { are_among vars.now form.now.terms ≡ true }
+    ensures row { row_in vars.now result.cells.items result.side ≡ tight source form.now }
+    ensures wide { length result.cells.items ≡ length vars.now + 1 }
+    ensures small { IsTrue (all_within (linear_in vars.now result.cells.items).terms) }
 {
-    let terms = Vec::from_slice(alloc, form.terms())?;
-    SystemRow::tight(alloc, terms, &form.constant_part(), source)
+    let cells = spread(vars, form.terms(), &form.constant_part());
+    tight(vars, cells, source)
+}
+
+// The cells of these terms and this constant.
+#[tactic(auto, unfolding(crate::specs::Region::spread_cells))]
+fn spread(vars: &[u32], terms: &[Term], constant: &i64) -> Cells
+    requires few { length vars.now ≤ 64 }
+    ensures { result.items ≡ constant.now ∷ spread_cells vars.now terms.now }
+{
+    let mut cells = ArrayVec::new();
+    cells.push(*constant);
+    let mut later_vars = vars;
+    let mut later_terms = terms;
+    'vars: while let [var, more @ ..] = later_vars {
+        put_front(later_terms, *var, &mut cells);
+        later_terms = behind(later_terms, *var);
+        later_vars = more;
+    }
+    cells
+}
+
+// Puts the coefficient of a variable in the first term.
+fn put_front(terms: &[Term], var: u32, cells: &mut Cells)
+    requires { array_vec_len cells.old < 65 }
+    ensures { cells.new.items ≡ cells.old.items ++ front_coefficient var terms.now ∷ [] }
+{
+    let [first, ..] = terms else {
+        cells.push(0);
+        return;
+    };
+    if first.var == var {
+        cells.push(first.coef);
+    } else {
+        cells.push(0);
+    }
+}
+
+// The terms behind that of a variable, where it is the first.
+fn behind(terms: &[Term], var: u32) -> &[Term]
+    ensures { result.now ≡ behind var terms.now }
+{
+    let [first, rest @ ..] = terms else {
+        return terms;
+    };
+    if first.var == var { rest } else { terms }
 }

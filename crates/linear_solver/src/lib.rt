@@ -6,28 +6,30 @@
 #![tactic(auto)]
 
 mod answer;
+mod cells;
 mod choose;
-mod combine;
 mod cone;
 mod divisors;
 mod first;
 mod forms;
+mod hash;
 mod laws;
 mod line_buf;
 mod next;
 mod numbering;
 mod numbers;
-mod reduced;
 mod rounds;
-mod row;
-mod select;
+mod side;
 mod solver;
 mod source;
 mod step;
-mod stop;
+mod steps;
 #[cfg(test)]
 mod tests;
+mod tight;
 mod tracing;
+mod variables;
+mod workspace;
 
 pub use crate::answer::{Answer, SOLVER_ROWS};
 pub use crate::laws::{proved_goals_are_entailed, steps_mean_a_proof};

@@ -3,36 +3,45 @@ ghost use Rattle.std.specs.Prelude.{◌≡◌, ◌+◌, ◌^◌, ◌<◌, ◌≤
 ghost use Rattle.std.specs.List.{slice_index_or};
 ghost use Rattle.xan_lin.specs.Subst.{zero_form};
 ghost use Rattle.linear_solver.specs.Meaning.{lines_meant, line_meant};
+ghost use Rattle.linear_solver.specs.Elimination.{refutation};
+ghost use Rattle.linear_solver.specs.Solving.{Answers};
 
-use crate::reduced::no_hints;
+use crate::answer::Answer;
+use crate::cone::find_cone;
+use crate::rounds::in_cone;
 use crate::step::Step;
+use crate::steps::Steps;
+use crate::workspace::Workspace;
 use index_sorts::Context;
 use proof_lines::Line;
 use std::alloc::Global;
 use std::marker::Model;
-use xan_lin::{Form, Memory};
+use xan_lin::{Form, LimitKind, Memory};
+use xan_pool::RowPool;
 
-/// How many steps a buffer has room for.
-pub(crate) const MOST_STEPS: usize = 257_026;
+// How many variables a walk over the hypotheses of a goal can come to find.
+const MOST_FOUND: usize = 8272;
 
-/// A buffer with room for 257,026 steps, which no elimination passes. It is seen as the list of its steps. The room is taken once and kept.
+/// A buffer with room for 257,026 steps, which no elimination passes, and for all else that an elimination needs beside its pool. It is seen
+/// as the list of its steps. The room is taken once and kept.
 #[derive(Drop)]
 pub struct LineBuf {
-    steps: Vec<Step>,
-    // Guesses where rows with some coefficients lie: no promise hangs on them, and they are never cleared.
-    hints: Vec<u32>,
+    steps: Steps,
+    work: Workspace,
+    // The variables that bear on a goal, as they are found.
+    found: Vec<u32>,
 }
 
 impl Model for LineBuf {
     ghost use Rattle.std.specs.Prelude.{List};
     ghost use Rattle.linear_solver.specs.declared.step.Step.{Step};
-    ghost use Rattle.linear_solver.specs.Buffers.{IsBuffer};
+    ghost use Rattle.linear_solver.specs.LineBuffers.{IsLineBuf};
 
     ghost Value = { List Step };
 
-    ghost view = { λ buffer. buffer.steps.items };
+    ghost view = { λ buffer. buffer.steps };
 
-    ghost invariant = { IsBuffer };
+    ghost invariant = { IsLineBuf };
 }
 
 impl LineBuf {
@@ -40,27 +49,12 @@ impl LineBuf {
     pub fn new(alloc: Global) -> Result<LineBuf, Memory>
         ensures { IfOk result (λ buffer. buffer ≡ []) }
     {
-        let Ok(steps) = Vec::with_capacity(alloc, MOST_STEPS) else {
+        let steps = Steps::new(alloc)?;
+        let work = Workspace::new(alloc)?;
+        let Ok(found) = Vec::with_capacity(alloc, MOST_FOUND) else {
             return Err(Memory);
         };
-        let Ok(hints) = no_hints(alloc) else {
-            return Err(Memory);
-        };
-        Ok(LineBuf { steps, hints })
-    }
-
-    /// Lends its hints, until they are given back.
-    pub(crate) fn take_hints(&mut self, alloc: Global) -> Vec<u32>
-        ensures { self.new ≡ self.old }
-    {
-        std::mem::replace(&mut self.hints, Vec::new(alloc))
-    }
-
-    /// Gets its hints back.
-    pub(crate) fn give_hints(&mut self, hints: Vec<u32>)
-        ensures { self.new ≡ self.old }
-    {
-        self.hints = hints;
+        Ok(LineBuf { steps, work, found })
     }
 
     /// Its steps.
@@ -68,45 +62,41 @@ impl LineBuf {
         ensures steps { result.now ≡ self.now }
         ensures few { length result.now ≤ 257026 }
     {
-        self.steps.as_slice()
+        self.steps.all()
     }
 
     /// The lines that the steps mean over this context. A step that names a hypothesis past its rows means the row 0.
     pub fn lines(&self, alloc: Global, ctx: &Context) -> Result<Vec<Line>, Memory>
         ensures { IfOk result (λ lines. lines.items ≡ lines_meant ctx.now.rows self.now) }
     {
-        lines_of(alloc, ctx.rows(), self.steps.as_slice())
+        lines_of(alloc, ctx.rows(), self.steps())
     }
 
-    /// Gives up all steps.
-    pub(crate) fn clear(&mut self)
-        ensures { self.new ≡ [] }
+    /// The elimination of the hypotheses and the opposite of the goal, which may stop at a limit. It leaves the steps that show it.
+    #[tactic(auto, unfolding(crate::specs::Elimination::refutation))]
+    pub(crate) fn eliminate(
+        &mut self,
+        pool: &mut RowPool,
+        hyps: &[Form],
+        goal: &Form,
+    ) -> Result<Answer, LimitKind>
+        requires width { pool.old.width ≡ 65 }
+        requires room { length pool.old.rows + 4001 ≤ pool.old.capacity }
+        requires few_rows { length hyps.now ≤ 512 }
+        ensures answer { Answers result self.new (refutation hyps.now goal.now) }
+        ensures unchanged { pool.new ≡ pool.old }
     {
         self.steps.clear();
-    }
-
-    /// Puts a step behind the others, for which there is room, and answers its number.
-    pub(crate) fn push(&mut self, step: Step) -> u32
-        requires { length self.old < 257026 }
-        ensures number { result ≡ length self.old }
-        ensures pushed { self.new ≡ self.old ++ step ∷ [] }
-    {
-        let number = self.steps.len();
-        let Ok(()) = self.steps.push(step) else {
-            unreachable!()
+        let Ok(start) = goal.negated_row() else {
+            return Err(LimitKind::Magnitude);
         };
-        number as u32
-    }
-
-    /// Puts these steps in place of all others.
-    pub(crate) fn replace(&mut self, steps: &[Step])
-        requires { length steps.now ≤ 257026 }
-        ensures { self.new ≡ steps.now }
-    {
-        self.steps.clear();
-        let Ok(()) = self.steps.extend_from_slice(steps) else {
-            unreachable!()
-        };
+        if !find_cone(hyps, &start, &mut self.found) {
+            return Err(LimitKind::Cone);
+        }
+        self.work.begin(pool, self.found.as_slice());
+        let answer = in_cone(hyps, &start, &mut self.work, &mut self.steps);
+        self.work.end(pool);
+        answer
     }
 }
 

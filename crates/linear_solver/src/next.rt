@@ -1,100 +1,91 @@
 //! The next system: the rows without a variable, and the sums of those with it.
-ghost use Rattle.std.specs.Prelude.{◌≡◌, length, OnOk, IfOk, MatchOption, false, true, if◌then◌else◌, Ok, Err};
-ghost use Rattle.xan_lin.specs.Linear.{Linear, are_within};
-ghost use Rattle.xan_lin.specs.declared.term.LimitKind.TheVariants as limit;
-ghost use Rattle.linear_solver.specs.Systems.{reduced_onto, tight, linear_of, has_sign, with_sign, size, sum_of_two, sum_source, limited, settle, with_sum, with_sums, with_all_sums, next_rows};
+ghost use Rattle.std.specs.Prelude.{◌≡◌, ◌+◌, ◌^◌, ◌<◌, ◌≤◌, [], length, IsTrue, MatchOption, false, true, if◌then◌else◌, Ok, Err};
+ghost use Rattle.std.specs.List.{slice_index_or};
+ghost use Rattle.xan_lin.specs.Linear.{Linear, are_within, all_within};
+ghost use Rattle.linear_solver.specs.Systems.{reduced_onto, tight, linear_of, has_sign, is_sign, with_sign, size, sum_of_two, sum_source, limited, settle, with_sum, with_sums, with_all_sums, next_rows};
 ghost use Rattle.linear_solver.specs.declared.source.Sign.TheVariants.{Positive, Negative, Zero};
-ghost use Rattle.linear_solver.specs.Reducing.{Gives, IsSummed};
+ghost use Rattle.linear_solver.specs.Reducing.{Gives};
+ghost use Rattle.linear_solver.specs.Region.{IsOpen, no_row, linear_in, row_in, IsSummed};
 
+use crate::cells::combined;
 use crate::choose::MOST_ROWS;
-use crate::combine::combined;
 use crate::divisors::multipliers_for;
-use crate::reduced::Reduced;
-use crate::row::SystemRow;
 use crate::source::{Sign, Source};
 use crate::step::Step;
-use crate::stop::Stop;
-use std::alloc::{AllocError, Global};
-use xan_lin::{LimitKind, combine_numbers};
+use crate::tight::{NewRow, tight};
+use crate::workspace::Workspace;
+use xan_lin::LimitKind;
 
-/// The next system in place of what was made: the rows without the variable, reduced, and then the sums of two rows in which it goes out.
+/// Makes the next system: the rows without the variable of this column, reduced, and then the sums of two rows in which it goes out.
 #[tactic(auto, unfolding(crate::specs::Systems::next_rows))]
-pub(crate) fn next_rows(
-    alloc: Global,
-    var: u32,
-    rows: &[SystemRow],
-    made: &mut Reduced,
-) -> Result<(), Stop>
-    ensures { Gives result made.new (next_rows var rows.now) }
+pub(crate) fn next_rows(column: usize, work: &mut Workspace) -> Result<(), LimitKind>
+    requires ready { IsOpen column work.old }
+    ensures made { Gives result work.new.made (next_rows (slice_index_or work.old.vars column 0) work.old.rows) }
+    ensures kept { work.new ≡ record work.old { made = work.new.made } }
 {
-    made.clear();
-    reduce_onto(alloc, var, rows, made)?;
-    with_all_sums(alloc, var, rows, made)
+    work.clear_made();
+    reduce_onto(column, work);
+    with_all_sums(column, work)
 }
 
 // Puts the rows without the variable to reduced ones, each tightened.
 #[tactic(auto, unfolding(crate::specs::Systems::reduced_onto, crate::specs::Systems::with_sign))]
-fn reduce_onto(
-    alloc: Global,
-    var: u32,
-    rows: &[SystemRow],
-    made: &mut Reduced,
-) -> Result<(), AllocError>
-    ensures { OnOk result (made.new ≡ reduced_onto made.old (with_sign Zero var rows.now)) }
+fn reduce_onto(column: usize, work: &mut Workspace)
+    requires ready { IsOpen column work.old }
+    requires none { work.old.made ≡ [] }
+    ensures made { work.new ≡ record work.old { made = reduced_onto [] (with_sign Zero (slice_index_or work.old.vars column 0) work.old.rows) } }
+    ensures few { length work.new.made ≤ 2000 }
 {
-    let mut rest = rows;
-    'rows: while let [row, later @ ..] = rest {
-        reduce_one(alloc, var, row, made)?;
-        rest = later;
+    'rows: for at in 0..work.count() {
+        reduce_one(column, at, work);
     }
-    Ok(())
 }
 
 // Puts a row to reduced ones, tightened, where it is without the variable.
-fn reduce_one(
-    alloc: Global,
-    var: u32,
-    row: &SystemRow,
-    made: &mut Reduced,
-) -> Result<(), AllocError>
-    ensures { OnOk result (made.new ≡ (if has_sign Zero var row.now then settle made.old (tight row.now.source (linear_of row.now)) else made.old)) }
+fn reduce_one(column: usize, at: usize, work: &mut Workspace)
+    requires ready { IsOpen column work.old }
+    requires few { length work.old.made ≤ 2000 }
+    requires live { at < length work.old.rows }
+    ensures { work.new ≡ record work.old { made = (if has_sign Zero (slice_index_or work.old.vars column 0) (slice_index_or work.old.rows at no_row)
+        then settle work.old.made (tight (slice_index_or work.old.rows at no_row).source (linear_of (slice_index_or work.old.rows at no_row))) else work.old.made) } }
 {
-    if row.has_sign(Sign::Zero, var) {
-        made.settle(row.again(alloc)?)?;
+    if has_sign(Sign::Zero, column, at, work) {
+        let row = work.again(at);
+        work.settle(&row);
     }
-    Ok(())
 }
 
 // Puts the sums of each positive row and each negative one to reduced rows.
 #[tactic(auto, unfolding(crate::specs::Systems::with_all_sums, crate::specs::Systems::with_sign))]
-fn with_all_sums(
-    alloc: Global,
-    var: u32,
-    rows: &[SystemRow],
-    made: &mut Reduced,
-) -> Result<(), Stop>
-    ensures { Gives result made.new (with_all_sums var (with_sign Positive var rows.now) (with_sign Negative var rows.now) made.old) }
+fn with_all_sums(column: usize, work: &mut Workspace) -> Result<(), LimitKind>
+    requires ready { IsOpen column work.old }
+    requires few { length work.old.made ≤ 2000 }
+    ensures made { Gives result work.new.made (with_all_sums (slice_index_or work.old.vars column 0) (with_sign Positive (slice_index_or work.old.vars column 0) work.old.rows)
+        (with_sign Negative (slice_index_or work.old.vars column 0) work.old.rows) work.old.made) }
+    ensures kept { work.new ≡ record work.old { made = work.new.made } }
 {
-    let mut rest = rows;
-    'rows: while let [row, later @ ..] = rest {
-        with_row_sums(alloc, var, row, rows, made)?;
-        rest = later;
+    'rows: for at in 0..work.count() {
+        match with_row_sums(column, at, work) {
+            Ok(()) => {}
+            Err(kind) => return Err(kind),
+        }
     }
     Ok(())
 }
 
 // Puts the sums of a row, where it is positive, and each negative one to reduced rows.
-fn with_row_sums(
-    alloc: Global,
-    var: u32,
-    row: &SystemRow,
-    rows: &[SystemRow],
-    made: &mut Reduced,
-) -> Result<(), Stop>
-    ensures { Gives result made.new (if has_sign Positive var row.now then with_sums var row.now (with_sign Negative var rows.now) made.old else Ok made.old) }
+fn with_row_sums(column: usize, at: usize, work: &mut Workspace) -> Result<(), LimitKind>
+    requires ready { IsOpen column work.old }
+    requires few { length work.old.made ≤ 2000 }
+    requires live { at < length work.old.rows }
+    ensures made { Gives result work.new.made (if has_sign Positive (slice_index_or work.old.vars column 0) (slice_index_or work.old.rows at no_row)
+        then with_sums (slice_index_or work.old.vars column 0) (slice_index_or work.old.rows at no_row) (with_sign Negative (slice_index_or work.old.vars column 0) work.old.rows) work.old.made
+        else Ok work.old.made) }
+    ensures kept { work.new ≡ record work.old { made = work.new.made } }
+    ensures few { result ≡ Ok tt → length work.new.made ≤ 2000 }
 {
-    if row.has_sign(Sign::Positive, var) {
-        with_sums(alloc, var, row, rows, made)
+    if has_sign(Sign::Positive, column, at, work) {
+        with_sums(column, at, work)
     } else {
         Ok(())
     }
@@ -102,35 +93,42 @@ fn with_row_sums(
 
 // Puts the sums of one positive row and each negative one to reduced rows.
 #[tactic(auto, unfolding(crate::specs::Systems::with_sums, crate::specs::Systems::with_sign))]
-fn with_sums(
-    alloc: Global,
-    var: u32,
-    positive: &SystemRow,
-    rows: &[SystemRow],
-    made: &mut Reduced,
-) -> Result<(), Stop>
-    ensures { Gives result made.new (with_sums var positive.now (with_sign Negative var rows.now) made.old) }
+fn with_sums(column: usize, positive: usize, work: &mut Workspace) -> Result<(), LimitKind>
+    requires ready { IsOpen column work.old }
+    requires few { length work.old.made ≤ 2000 }
+    requires live { positive < length work.old.rows }
+    ensures made { Gives result work.new.made (with_sums (slice_index_or work.old.vars column 0) (slice_index_or work.old.rows positive no_row)
+        (with_sign Negative (slice_index_or work.old.vars column 0) work.old.rows) work.old.made) }
+    ensures kept { work.new ≡ record work.old { made = work.new.made } }
+    ensures few { result ≡ Ok tt → length work.new.made ≤ 2000 }
 {
-    let mut rest = rows;
-    'rows: while let [row, later @ ..] = rest {
-        with_row_sum(alloc, var, positive, row, made)?;
-        rest = later;
+    'rows: for at in 0..work.count() {
+        match with_row_sum(column, positive, at, work) {
+            Ok(()) => {}
+            Err(kind) => return Err(kind),
+        }
     }
     Ok(())
 }
 
 // Puts the sum of a positive row and another, where that is negative, to reduced rows.
 fn with_row_sum(
-    alloc: Global,
-    var: u32,
-    positive: &SystemRow,
-    row: &SystemRow,
-    made: &mut Reduced,
-) -> Result<(), Stop>
-    ensures { Gives result made.new (if has_sign Negative var row.now then with_sum var positive.now row.now made.old else Ok made.old) }
+    column: usize,
+    positive: usize,
+    at: usize,
+    work: &mut Workspace,
+) -> Result<(), LimitKind>
+    requires ready { IsOpen column work.old }
+    requires few { length work.old.made ≤ 2000 }
+    requires live { positive < length work.old.rows }
+    requires other { at < length work.old.rows }
+    ensures made { Gives result work.new.made (if has_sign Negative (slice_index_or work.old.vars column 0) (slice_index_or work.old.rows at no_row)
+        then with_sum (slice_index_or work.old.vars column 0) (slice_index_or work.old.rows positive no_row) (slice_index_or work.old.rows at no_row) work.old.made else Ok work.old.made) }
+    ensures kept { work.new ≡ record work.old { made = work.new.made } }
+    ensures few { result ≡ Ok tt → length work.new.made ≤ 2000 }
 {
-    if row.has_sign(Sign::Negative, var) {
-        with_sum(alloc, var, positive, row, made)
+    if has_sign(Sign::Negative, column, at, work) {
+        with_sum(column, positive, at, work)
     } else {
         Ok(())
     }
@@ -139,60 +137,94 @@ fn with_row_sum(
 // Puts the sum of two rows to reduced ones.
 #[tactic(auto, unfolding(crate::specs::Systems::with_sum))]
 fn with_sum(
-    alloc: Global,
-    var: u32,
-    positive: &SystemRow,
-    negative: &SystemRow,
-    made: &mut Reduced,
-) -> Result<(), Stop>
-    ensures { Gives result made.new (with_sum var positive.now negative.now made.old) }
+    column: usize,
+    positive: usize,
+    negative: usize,
+    work: &mut Workspace,
+) -> Result<(), LimitKind>
+    requires ready { IsOpen column work.old }
+    requires few { length work.old.made ≤ 2000 }
+    requires live { positive < length work.old.rows }
+    requires other { negative < length work.old.rows }
+    ensures made { Gives result work.new.made (with_sum (slice_index_or work.old.vars column 0) (slice_index_or work.old.rows positive no_row)
+        (slice_index_or work.old.rows negative no_row) work.old.made) }
+    ensures kept { work.new ≡ record work.old { made = work.new.made } }
+    ensures few { result ≡ Ok tt → length work.new.made ≤ 2000 }
 {
-    match summed(alloc, var, positive, negative)? {
+    match summed(column, positive, negative, work) {
         Some(row) => {
-            made.settle(row)?;
-            limited(made)
+            work.settle(&row);
+            limited(work)
         }
-        None => Err(Stop::Limit(LimitKind::Magnitude)),
+        None => Err(LimitKind::Magnitude),
     }
 }
 
 // Stops where the rows are more than a system may have.
-fn limited(made: &Reduced) -> Result<(), Stop>
-    ensures { Gives result made.now (limited made.now) }
+fn limited(work: &Workspace) -> Result<(), LimitKind>
+    ensures made { Gives result work.now.made (limited work.now.made) }
+    ensures few { result ≡ Ok tt → length work.now.made ≤ 2000 }
 {
-    if made.rows().len() > MOST_ROWS {
-        Err(Stop::Limit(LimitKind::System))
+    if work.count_made() > MOST_ROWS {
+        Err(LimitKind::System)
     } else {
         Ok(())
     }
 }
 
 // The sum of two rows in which the variable goes out, tightened. `None` comes where a number of it is past the bound before that.
-fn summed(
-    alloc: Global,
-    var: u32,
-    positive: &SystemRow,
-    negative: &SystemRow,
-) -> Result<Option<SystemRow>, AllocError>
-    ensures { IfOk result (λ found. IsSummed found (size var positive.now) (size var negative.now) positive.now negative.now) }
+fn summed(column: usize, positive: usize, negative: usize, work: &Workspace) -> Option<NewRow>
+    requires column { column < length work.now.vars }
+    requires live { positive < length work.now.rows }
+    requires other { negative < length work.now.rows }
+    ensures { IsSummed work.now.vars result (size (slice_index_or work.now.vars column 0) (slice_index_or work.now.rows positive no_row))
+        (size (slice_index_or work.now.vars column 0) (slice_index_or work.now.rows negative no_row))
+        (slice_index_or work.now.rows positive no_row) (slice_index_or work.now.rows negative no_row) }
 {
-    let by = multipliers_for(positive.size(var), negative.size(var));
-    let Some(constant) = combine_numbers(
-        &positive.constant(),
-        &by.first,
-        &negative.constant(),
-        &by.second,
-    ) else {
-        return Ok(None);
-    };
-    let Some(terms) = combined(alloc, positive.terms(), negative.terms(), &by)? else {
-        return Ok(None);
+    let vars = work.vars();
+    let by = multipliers_for(
+        size(column, positive, work),
+        size(column, negative, work),
+    );
+    let Some(cells) = combined(work.cells(positive), work.cells(negative), &by) else {
+        return None;
     };
     let step = Step::Comb {
         left_by: by.first,
-        left: positive.line(),
+        left: work.line(positive),
         right_by: by.second,
-        right: negative.line(),
+        right: work.line(negative),
     };
-    Ok(Some(SystemRow::tight(alloc, terms, &constant, Source::New(step))?))
+    Some(tight(vars, cells, Source::New(step)))
+}
+
+// The magnitude of the coefficient of the variable in a row.
+fn size(column: usize, at: usize, work: &Workspace) -> u64
+    requires column { column < length work.now.vars }
+    requires live { at < length work.now.rows }
+    ensures exact { result ≡ size (slice_index_or work.now.vars column 0) (slice_index_or work.now.rows at no_row) }
+    ensures small { result < 2 ^ 62 }
+{
+    let _cells = work.cells(at);
+    work.coefficient(at, column).unsigned_abs()
+}
+
+// Whether the coefficient of the variable in a row has this sign.
+fn has_sign(sign: Sign, column: usize, at: usize, work: &Workspace) -> bool
+    requires column { column < length work.now.vars }
+    requires live { at < length work.now.rows }
+    ensures { result ≡ has_sign sign (slice_index_or work.now.vars column 0) (slice_index_or work.now.rows at no_row) }
+{
+    is_sign(sign, work.coefficient(at, column))
+}
+
+// Whether the number has this sign.
+fn is_sign(sign: Sign, number: &i64) -> bool
+    ensures { result ≡ is_sign sign number.now }
+{
+    match sign {
+        Sign::Positive => *number > 0,
+        Sign::Negative => *number < 0,
+        Sign::Zero => *number == 0,
+    }
 }

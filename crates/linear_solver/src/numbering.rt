@@ -1,65 +1,74 @@
 //! How the rows of a reduced system get their steps.
-ghost use Rattle.std.specs.Prelude.{◌≡◌, ◌+◌, ◌*◌, ◌<◌, ◌≤◌, [], length, IfOk, OnOk};
-ghost use Rattle.linear_solver.specs.Numbering.{with_source, source_line, with_cut, cut_line, steps_with, line_with, numbered};
+ghost use Rattle.std.specs.Prelude.{◌≡◌, ◌+◌, ◌*◌, ◌<◌, ◌≤◌, [], ◌∷◌, ◌++◌, length, vec_capacity};
+ghost use Rattle.linear_solver.specs.Numbering.{with_source, source_line, with_cut, cut_line, steps_with, line_with};
+ghost use Rattle.linear_solver.specs.Region.{numbered_sides, side_at};
 
-use crate::line_buf::LineBuf;
-use crate::row::SystemRow;
+use crate::side::Side;
 use crate::source::Source;
 use crate::step::Step;
-use std::alloc::{AllocError, Global};
+use crate::steps::Steps;
 
-/// The rows as those that steps give. Each row in order gets its steps in the buffer, which has room for two a row.
-#[tactic(auto, unfolding(crate::specs::Numbering::numbered))]
-pub(crate) fn numbered(
-    alloc: Global,
-    rows: &[SystemRow],
-    buf: &mut LineBuf,
-) -> Result<Vec<SystemRow>, AllocError>
-    requires { length buf.old + 2 * length rows.now ≤ 257026 }
-    ensures exact { IfOk result (λ done. numbered buf.old [] rows.now ≡ record { steps = buf.new; rows = done.items }) }
-    ensures few { OnOk result (length buf.new ≤ length buf.old + 2 * length rows.now) }
+/// What is kept beside rows that steps give: each row in order gets its steps, for which there is room.
+#[tactic(auto, unfolding(crate::specs::Region::numbered_sides))]
+pub(crate) fn number(made: &[Side], done: &mut Vec<Side>, steps: &mut Steps)
+    requires none { done.old.items ≡ [] }
+    requires room { length made.now ≤ vec_capacity done.old }
+    requires few { length steps.old + 2 * length made.now ≤ 257026 }
+    ensures exact { numbered_sides steps.old [] made.now ≡ record { steps = steps.new; sides = done.new.items } }
+    ensures few { length steps.new ≤ length steps.old + 2 * length made.now }
+    ensures capacity { vec_capacity done.old ≤ vec_capacity done.new }
 {
-    let mut done = Vec::with_capacity(alloc, rows.len())?;
-    let mut rest = rows;
-    'rows: while let [row, later @ ..] = rest {
-        let line = put_steps(buf, row.source(), &row.by());
-        done.push(row.at_line(alloc, line)?)?;
+    let mut rest = made;
+    'rows: while let [side, later @ ..] = rest {
+        let line = put_steps(steps, side.source, &side.by);
+        put_side(done, line);
         rest = later;
     }
-    Ok(done)
+}
+
+// Puts what is kept beside the row that a step gives.
+fn put_side(done: &mut Vec<Side>, line: u32)
+    requires { length done.old.items < vec_capacity done.old }
+    ensures items { done.new.items ≡ done.old.items ++ side_at line ∷ [] }
+    ensures capacity { vec_capacity done.old ≤ vec_capacity done.new }
+{
+    let source = Source::Line(line);
+    let Ok(()) = done.push(Side { source, by: 1 }) else {
+        unreachable!()
+    };
 }
 
 // Puts the steps of a row, and answers the number of the one that gives it.
-fn put_steps(buf: &mut LineBuf, source: Source, by: &i64) -> u32
-    requires { length buf.old + 2 ≤ 257026 }
-    ensures steps { buf.new ≡ steps_with buf.old source by.now }
-    ensures number { result ≡ line_with buf.old source by.now }
-    ensures few { length buf.new ≤ length buf.old + 2 }
+fn put_steps(steps: &mut Steps, source: Source, by: &i64) -> u32
+    requires { length steps.old + 2 ≤ 257026 }
+    ensures steps { steps.new ≡ steps_with steps.old source by.now }
+    ensures number { result ≡ line_with steps.old source by.now }
+    ensures few { length steps.new ≤ length steps.old + 2 }
 {
-    let line = put_source(buf, source);
-    put_cut(buf, line, by)
+    let line = put_source(steps, source);
+    put_cut(steps, line, by)
 }
 
 // Puts the step of a row, unless it is there.
-fn put_source(buf: &mut LineBuf, source: Source) -> u32
-    requires { length buf.old < 257026 }
-    ensures steps { buf.new ≡ with_source buf.old source }
-    ensures number { result ≡ source_line buf.old source }
+fn put_source(steps: &mut Steps, source: Source) -> u32
+    requires { length steps.old < 257026 }
+    ensures steps { steps.new ≡ with_source steps.old source }
+    ensures number { result ≡ source_line steps.old source }
 {
     match source {
         Source::Line(line) => line,
-        Source::New(step) => buf.push(step),
+        Source::New(step) => steps.push(step),
     }
 }
 
 // Puts the step that divides a row by a number above 1.
-fn put_cut(buf: &mut LineBuf, line: u32, by: &i64) -> u32
-    requires { length buf.old < 257026 }
-    ensures steps { buf.new ≡ with_cut buf.old line by.now }
-    ensures number { result ≡ cut_line buf.old line by.now }
+fn put_cut(steps: &mut Steps, line: u32, by: &i64) -> u32
+    requires { length steps.old < 257026 }
+    ensures steps { steps.new ≡ with_cut steps.old line by.now }
+    ensures number { result ≡ cut_line steps.old line by.now }
 {
     if *by > 1 {
-        buf.push(Step::Cut { row: line, by: *by })
+        steps.push(Step::Cut { row: line, by: *by })
     } else {
         line
     }

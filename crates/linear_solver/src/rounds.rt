@@ -1,96 +1,77 @@
 //! The rounds of the elimination.
-ghost use Rattle.std.specs.Prelude.{◌≡◌, ◌≤◌, [], length};
+ghost use Rattle.std.specs.Prelude.{◌≡◌, ◌≤◌, [], length, true};
+ghost use Rattle.proof_lines.specs.Cells.{are_among};
 ghost use Rattle.linear_solver.specs.Elimination.{ended, rounds, in_cone};
 ghost use Rattle.linear_solver.specs.Solving.{Answers};
+ghost use Rattle.linear_solver.specs.Region.{AreClosed, HasRoom};
 
 use crate::answer::Answer;
 use crate::choose::look_at;
 use crate::first::first_rows;
-use crate::line_buf::LineBuf;
 use crate::next::next_rows;
-use crate::numbering::numbered;
-use crate::reduced::Reduced;
-use crate::row::SystemRow;
 use crate::source::Look;
-use crate::stop::Stop;
-use crate::tracing::trace;
-use std::alloc::Global;
+use crate::steps::Steps;
+use crate::variables::column_of;
+use crate::workspace::Workspace;
 use xan_lin::{Form, LimitKind};
 
 /// The most rounds: each takes a variable away, of at most 64.
 pub(crate) const MOST_ROUNDS: usize = 64;
 
-/// The elimination of these variables from the hypotheses and the opposite of the goal. Where it proves, the steps are left that show it.
+/// The elimination of the variables from the hypotheses and the opposite of the goal. Where it proves, the steps are left that show it.
 pub(crate) fn in_cone(
-    alloc: Global,
-    vars: &[u32],
     hyps: &[Form],
     start: &Form,
-    buf: &mut LineBuf,
-) -> Result<Answer, Stop>
-    requires few { length vars.now ≤ 64 }
+    work: &mut Workspace,
+    steps: &mut Steps,
+) -> Result<Answer, LimitKind>
+    requires few { length work.old.vars ≤ 64 }
     requires few_rows { length hyps.now ≤ 512 }
-    requires empty { buf.old ≡ [] }
-    ensures { Answers result buf.new (in_cone vars.now hyps.now start.now) }
+    requires closed { AreClosed work.old.vars hyps.now }
+    requires among { are_among work.old.vars start.now.terms ≡ true }
+    requires none { work.old.rows ≡ [] }
+    requires empty { work.old.made ≡ [] }
+    requires room { HasRoom work.old }
+    requires no_steps { steps.old ≡ [] }
+    ensures answer { Answers result steps.new (in_cone work.old.vars hyps.now start.now) }
+    ensures kept { work.new.pool ≡ work.old.pool }
 {
-    let mut made = Reduced::new(alloc, buf.take_hints(alloc));
-    let answer = from_first(alloc, vars, hyps, start, &mut made, buf);
-    buf.give_hints(made.into_hints());
-    answer
+    first_rows(hyps, start, work);
+    work.turn(steps);
+    rounds(work, steps)
 }
 
-// The elimination from the first system on; `made` lends the room for the systems in the making.
-fn from_first(
-    alloc: Global,
-    vars: &[u32],
-    hyps: &[Form],
-    start: &Form,
-    made: &mut Reduced,
-    buf: &mut LineBuf,
-) -> Result<Answer, Stop>
-    requires few { length vars.now ≤ 64 }
-    requires few_rows { length hyps.now ≤ 512 }
-    requires empty { buf.old ≡ [] }
-    requires none { made.old ≡ [] }
-    ensures { Answers result buf.new (in_cone vars.now hyps.now start.now) }
+// The rounds from the system on.
+fn rounds(work: &mut Workspace, steps: &mut Steps) -> Result<Answer, LimitKind>
+    requires few { length steps.old ≤ 1026 }
+    requires empty { work.old.made ≡ [] }
+    requires room { HasRoom work.old }
+    ensures answer { Answers result steps.new (rounds 64 work.old.vars steps.old work.old.rows) }
+    ensures kept { work.new.pool ≡ work.old.pool }
 {
-    first_rows(alloc, vars, hyps, start, made)?;
-    let rows = numbered(alloc, made.rows(), buf)?;
-    rounds(alloc, vars, rows, made, buf)
-}
-
-// The rounds from a system on; `made` lends the room for the systems in the making.
-fn rounds(
-    alloc: Global,
-    vars: &[u32],
-    first: Vec<SystemRow>,
-    made: &mut Reduced,
-    buf: &mut LineBuf,
-) -> Result<Answer, Stop>
-    requires { length buf.old ≤ 1026 }
-    ensures { Answers result buf.new (rounds 64 vars.now buf.old first.items) }
-{
-    let mut rows = first;
     'rounds: for _round in 0..MOST_ROUNDS {
-        let var = match look_at(vars, rows.as_slice()) {
+        let var = match look_at(work) {
             Look::Take(var) => var,
-            other => return ended(alloc, other, buf),
+            other => return ended(other, steps),
         };
-        next_rows(alloc, var, rows.as_slice(), made)?;
-        rows = numbered(alloc, made.rows(), buf)?;
+        let column = column_of(work.vars(), var);
+        match next_rows(column, work) {
+            Ok(()) => work.turn(steps),
+            Err(kind) => return Err(kind),
+        }
     }
-    let look = look_at(vars, rows.as_slice());
-    ended(alloc, look, buf)
+    let look = look_at(work);
+    ended(look, steps)
 }
 
 // What ends the elimination at a system.
-fn ended(alloc: Global, look: Look, buf: &mut LineBuf) -> Result<Answer, Stop>
-    ensures { Answers result buf.new (ended buf.old look) }
+fn ended(look: Look, steps: &mut Steps) -> Result<Answer, LimitKind>
+    ensures { Answers result steps.new (ended steps.old look) }
 {
     match look {
-        Look::Full => Err(Stop::Limit(LimitKind::System)),
+        Look::Full => Err(LimitKind::System),
         Look::Refuted(line) => {
-            trace(alloc, line, buf)?;
+            steps.trace(line);
             Ok(Answer::Proved)
         }
         Look::Spent | Look::Take(_) => Ok(Answer::Unproved),

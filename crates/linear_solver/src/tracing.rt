@@ -1,60 +1,51 @@
 //! The steps from which one of them is made, counted anew.
-ghost use Rattle.std.specs.Prelude.{◌≡◌, ◌+◌, take, ◌≤◌, ◌^◌, ◌<◌, [], ◌∷◌, ◌++◌, length, replicate, slice_set, true, false, IfOk};
+ghost use Rattle.std.specs.Prelude.{◌≡◌, ◌+◌, take, ◌≤◌, ◌^◌, ◌<◌, [], ◌∷◌, ◌++◌, length, replicate, slice_set, true, false, vec_capacity};
 ghost use Rattle.std.specs.List.{slice_index_or};
-ghost use Rattle.linear_solver.specs.Tracing.{with_marks, marked_at, marked_below, needed, renumbered, kept_onto, traced};
+ghost use Rattle.linear_solver.specs.Tracing.{with_marks, marked_at, marked_below, needed, renumbered, kept_onto};
 
-use crate::line_buf::LineBuf;
 use crate::step::Step;
-use std::alloc::{AllocError, Global};
 
-/// Leaves the steps from which the step of this number is made.
-pub(crate) fn trace(alloc: Global, line: u32, buf: &mut LineBuf) -> Result<(), AllocError>
-    ensures { IfOk result (λ _. buf.new ≡ traced buf.old line) }
-{
-    let kept = traced(alloc, buf.steps(), line)?;
-    buf.replace(kept.as_slice());
-    Ok(())
-}
-
-// The steps from which the step of this number is made.
-#[tactic(auto, unfolding(crate::specs::Tracing::traced))]
-fn traced(alloc: Global, steps: &[Step], line: u32) -> Result<Vec<Step>, AllocError>
-    requires { length steps.now ≤ 257026 }
-    ensures exact { IfOk result (λ kept. kept.items ≡ traced steps.now line) }
-    ensures few { IfOk result (λ kept. length kept.items ≤ 257026) }
-{
-    let front = up_to(steps, line);
-    let marks = needed(alloc, front, line)?;
-    kept(alloc, front, marks.as_slice())
-}
-
-// The steps up to that of this number.
-fn up_to(steps: &[Step], line: u32) -> &[Step]
+/// The steps up to that of this number.
+pub(crate) fn up_to(steps: &[Step], line: u32) -> &[Step]
     ensures { result.now ≡ take (line + 1) steps.now }
 {
     let count = steps.len().min(line as usize + 1);
     &steps[..count]
 }
 
-// The marks of the steps that are needed.
+/// Leaves the marks of the steps that are needed.
 #[tactic(auto, unfolding(crate::specs::Tracing::marked_below))]
-fn needed(alloc: Global, steps: &[Step], line: u32) -> Result<Vec<bool>, AllocError>
-    ensures { IfOk result (λ marks. marks.items ≡ needed steps.now line) }
+pub(crate) fn needed(steps: &[Step], line: u32, marks: &mut Vec<bool>)
+    requires { length steps.now ≤ vec_capacity marks.old }
+    ensures exact { marks.new.items ≡ needed steps.now line }
+    ensures capacity { vec_capacity marks.old ≤ vec_capacity marks.new }
 {
-    let mut marks = vec![in alloc; false; steps.len()]?;
-    mark(&mut marks, line);
+    clear_marks(steps.len(), marks);
+    mark(marks, line);
     let mut at = steps.len();
     'steps: while at > 0 {
         at -= 1;
-        mark_at(&mut marks, at, steps);
+        mark_at(marks, at, steps);
     }
-    Ok(marks)
+}
+
+// Leaves so many steps without a mark.
+fn clear_marks(count: usize, marks: &mut Vec<bool>)
+    requires { count ≤ vec_capacity marks.old }
+    ensures items { marks.new.items ≡ replicate count false }
+    ensures capacity { vec_capacity marks.old ≤ vec_capacity marks.new }
+{
+    marks.clear();
+    let Ok(()) = marks.resize(count, false) else {
+        unreachable!()
+    };
 }
 
 // Marks the steps whose rows the step of this number takes, where it is marked itself.
 fn mark_at(marks: &mut Vec<bool>, at: usize, steps: &[Step])
     requires { at < length steps.now }
-    ensures { marks.new.items ≡ marked_at at steps.now marks.old.items }
+    ensures items { marks.new.items ≡ marked_at at steps.now marks.old.items }
+    ensures capacity { vec_capacity marks.old ≤ vec_capacity marks.new }
 {
     if is_marked(marks.as_slice(), at) {
         mark_taken(marks, &steps[at]);
@@ -73,7 +64,8 @@ fn is_marked(marks: &[bool], at: usize) -> bool
 
 // Marks the steps whose rows a step takes.
 fn mark_taken(marks: &mut Vec<bool>, step: &Step)
-    ensures { marks.new.items ≡ with_marks marks.old.items step.now }
+    ensures items { marks.new.items ≡ with_marks marks.old.items step.now }
+    ensures capacity { vec_capacity marks.old ≤ vec_capacity marks.new }
 {
     match step {
         Step::Hyp(_) | Step::Goal => {}
@@ -87,39 +79,65 @@ fn mark_taken(marks: &mut Vec<bool>, step: &Step)
 
 // Marks the step of this number, where there is one.
 fn mark(marks: &mut Vec<bool>, at: u32)
-    ensures { marks.new.items ≡ slice_set marks.old.items at true }
+    ensures items { marks.new.items ≡ slice_set marks.old.items at true }
+    ensures capacity { vec_capacity marks.old ≤ vec_capacity marks.new }
 {
     if (at as usize) < marks.len() {
         marks[at as usize] = true;
     }
 }
 
-// The marked steps, counted anew.
+/// Leaves the marked steps, counted anew.
 #[tactic(auto, unfolding(crate::specs::Tracing::kept_onto))]
-fn kept(alloc: Global, steps: &[Step], marks: &[bool]) -> Result<Vec<Step>, AllocError>
-    requires { length steps.now ≤ 257026 }
-    ensures exact { IfOk result (λ kept. kept.items ≡ kept_onto [] [] marks.now steps.now) }
-    ensures few { IfOk result (λ kept. length kept.items ≤ 257026) }
+pub(crate) fn kept(steps: &[Step], marks: &[bool], numbers: &mut Vec<u32>, kept: &mut Vec<Step>)
+    requires few { length steps.now ≤ 257026 }
+    requires room { length steps.now ≤ vec_capacity kept.old }
+    requires room_numbers { length steps.now ≤ vec_capacity numbers.old }
+    ensures exact { kept.new.items ≡ kept_onto [] [] marks.now steps.now }
+    ensures few { length kept.new.items ≤ length steps.now }
+    ensures capacity { vec_capacity kept.old ≤ vec_capacity kept.new }
+    ensures numbers { vec_capacity numbers.old ≤ vec_capacity numbers.new }
 {
-    let mut kept = Vec::new(alloc);
-    let mut numbers = Vec::with_capacity(alloc, steps.len())?;
+    kept.clear();
+    numbers.clear();
     let mut later_steps = steps;
     let mut later_marks = marks;
     'steps: while let [step, more_steps @ ..] = later_steps {
         let [mark, more_marks @ ..] = later_marks else {
-            return Ok(kept);
+            return;
         };
         if *mark {
             let step = renumbered(numbers.as_slice(), step);
-            numbers.push(kept.len() as u32)?;
-            kept.push(step)?;
+            put_number(numbers, kept.len() as u32);
+            put_step(kept, step);
         } else {
-            numbers.push(0u32)?;
+            put_number(numbers, 0);
         }
         later_steps = more_steps;
         later_marks = more_marks;
     }
-    Ok(kept)
+}
+
+// Puts a number behind others, for which there is room.
+fn put_number(numbers: &mut Vec<u32>, number: u32)
+    requires { length numbers.old.items < vec_capacity numbers.old }
+    ensures items { numbers.new.items ≡ numbers.old.items ++ number ∷ [] }
+    ensures capacity { vec_capacity numbers.old ≤ vec_capacity numbers.new }
+{
+    let Ok(()) = numbers.push(number) else {
+        unreachable!()
+    };
+}
+
+// Puts a step behind others, for which there is room.
+fn put_step(steps: &mut Vec<Step>, step: Step)
+    requires { length steps.old.items < vec_capacity steps.old }
+    ensures items { steps.new.items ≡ steps.old.items ++ step ∷ [] }
+    ensures capacity { vec_capacity steps.old ≤ vec_capacity steps.new }
+{
+    let Ok(()) = steps.push(step) else {
+        unreachable!()
+    };
 }
 
 // The step with the new numbers of the rows that it takes.

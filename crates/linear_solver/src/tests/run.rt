@@ -77,7 +77,7 @@ pub(crate) fn run_of(
 ) -> Option<Shown> {
     let mut pool = RowPool::new(alloc, 4001, 65).ok()?;
     let mut buf = LineBuf::new(alloc).ok()?;
-    let answer = refute(alloc, &mut pool, context, goal, &mut buf).ok()?;
+    let answer = refute(&mut pool, context, goal, &mut buf);
     if answer != Answer::Proved {
         return Some(Shown {
             answer,

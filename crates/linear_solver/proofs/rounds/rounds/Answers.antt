@@ -1,33 +1,44 @@
-use Rattle.std.proofs.Common.{refl, ap, length, arith}
-use Rattle.std.proofs.lemmas.Result.{err_from_is_err_and}
-use Rattle.linear_solver.proofs.Room.{next_few}
-use Rattle.linear_solver.proofs.Rounding.{rounds_end, rounds_last, rounds_fail, rounds_more}
+use Rattle.std.proofs.Common.{refl, ap, sym, ◌∙◌, slice_get, length, arith}
+use Rattle.linear_solver.proofs.Turns.{taken_among, turns_begin, turns_end, turns_last, turns_fail, turns_few, turns_more, ready_now}
 use Rattle.linear_solver.proofs.rounds.rounds.Goals as goal
 
-pub returns-in_default : goal.returns-in_default
-returns-in_default c =
-    rounds_end _ _ _ _ _ _ _ _ _ _ c.rounds.invariant.same c.as_slice.ensures.value c.look_at.ensures refl c.in_default.not-Take c.ended.ensures
+pub rounds-init : goal.rounds-init
+rounds-init c = turns_begin _ _ c.requires.few
 
-pub returns-in_err-next_rows : goal.returns-in_err-next_rows
-returns-in_err-next_rows c =
-    let p = err_from_is_err_and c.from_residual.result c.from_residual.ensures.1 in
-    let f = rounds_fail _ _ _ c.rounds.buf _ _ _ _ _ _ _ _ c.rounds.invariant.same c.rounds-test.true c.as_slice.ensures.value c.look_at.ensures c.in-Take.is c.as_slice-in-rounds.ensures.value
-    (c.in_err-next_rows.ensures {u = tt}) in
-    rw (p.1, p.2) f
+pub returns-in_default-clause-answer : goal.returns-in_default-clause-answer
+returns-in_default-clause-answer c =
+    turns_end _ _ _ _ _ _ _ _ _ c.rounds.invariant c.look_at.ensures refl c.in_default.not-Take c.ended.ensures
 
-pub numbered-requires : goal.numbered-requires
-numbered-requires c =
-    let few = next_few _ _ _ _ _ _ _ c.as_slice.ensures.value c.look_at.ensures c.in-Take.is c.as_slice-in-rounds.ensures.value (c.in_ok-next_rows.ensures {u = tt}) in
-    omega (arith, few, ap length c.rows.ensures, c.rounds.invariant.few, c.rounds-test.true)
+pub column_of-column-requires : goal.column_of-column-requires
+column_of-column-requires c = taken_among _ _ _ _ _ c.look_at.ensures c.in-Take.is c.vars.ensures.vars
+
+pub next_rows-requires : goal.next_rows-requires
+next_rows-requires c = record {
+  ready = ready_now _ _ _ _ _ _ _ _ c.rounds.invariant c.requires.room c.look_at.ensures c.in-Take.is
+      (ap (λ vs. slice_get vs c.column_of-column.result) (sym c.vars.ensures.vars) ∙ c.column_of-column.ensures);
+}
+
+pub turn-requires-clause-few : goal.turn-requires-clause-few
+turn-requires-clause-few c =
+    let little = turns_few _ _ c.next_rows.new.work _ _ _ _ _ _ c.rounds.invariant c.look_at.ensures c.in-Take.is
+    (ap (λ vs. slice_get vs c.column_of-column.result) (sym c.vars.ensures.vars) ∙ c.column_of-column.ensures) (c.in-Ok.ensures {u = tt}).made in
+    omega arith
+
+pub turn-requires-clause-room : goal.turn-requires-clause-room
+turn-requires-clause-room c =
+    let little = turns_few _ _ c.next_rows.new.work _ _ _ _ _ _ c.rounds.invariant c.look_at.ensures c.in-Take.is
+    (ap (λ vs. slice_get vs c.column_of-column.result) (sym c.vars.ensures.vars) ∙ c.column_of-column.ensures) (c.in-Ok.ensures {u = tt}).made in
+    omega (arith, c.rounds.invariant.few, c.rounds-test.true)
 
 pub rounds-preserved : goal.rounds-preserved
 rounds-preserved c =
-    let few = next_few _ _ _ _ _ _ _ c.as_slice.ensures.value c.look_at.ensures c.in-Take.is c.as_slice-in-rounds.ensures.value (c.in_ok-next_rows.ensures {u = tt}) in
-    record {
-      same = rounds_more _ _ _ _ _ _ _ _ _ _ _ _ _ c.rounds.invariant.same c.rounds-test.true c.as_slice.ensures.value c.look_at.ensures c.in-Take.is
-          c.as_slice-in-rounds.ensures.value (c.in_ok-next_rows.ensures {u = tt}) c.rows.ensures (c.in_ok-rows.ensures {u = tt}).exact;
-      few = omega (arith, few, ap length c.rows.ensures, c.rounds.invariant.few, (c.in_ok-rows.ensures {u = tt}).few);
-    }
+    turns_more _ _ c.next_rows.new.work _ _ _ _ _ _ _ _ c.rounds.invariant c.rounds-test.true c.requires.empty c.look_at.ensures c.in-Take.is
+    (ap (λ vs. slice_get vs c.column_of-column.result) (sym c.vars.ensures.vars) ∙ c.column_of-column.ensures) (c.in-Ok.ensures {u = tt}).made (c.in-Ok.ensures {u = tt}).kept c.turn.ensures.numbered c.turn.ensures.turned c.turn.ensures.few
 
-pub returns : goal.returns
-returns c = rounds_last _ _ _ _ _ _ _ _ _ c.rounds.invariant.same c.rounds-test.false c.as_slice-2.ensures.value c.look_at-look.ensures c.ended-2.ensures
+pub returns-in-Err-clause-answer : goal.returns-in-Err-clause-answer
+returns-in-Err-clause-answer c =
+    turns_fail _ _ _ c.rounds.steps _ _ _ _ _ _ c.rounds.invariant c.rounds-test.true c.look_at.ensures c.in-Take.is
+    (ap (λ vs. slice_get vs c.column_of-column.result) (sym c.vars.ensures.vars) ∙ c.column_of-column.ensures) (c.in-Err.ensures {u = tt}).made
+
+pub returns-clause-answer : goal.returns-clause-answer
+returns-clause-answer c = turns_last _ _ _ _ _ _ _ _ c.rounds.invariant c.rounds-test.false c.look_at-look.ensures c.ended-2.ensures

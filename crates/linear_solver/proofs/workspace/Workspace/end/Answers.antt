@@ -1,0 +1,13 @@
+use Rattle.std.proofs.Common.{◌∙◌, arith}
+use Rattle.linear_solver.proofs.Placing.{empty_lies, empty_is}
+use Rattle.linear_solver.proofs.workspace.Workspace.end.Goals as goal
+
+pub invariant_of-self : goal.invariant_of-self
+invariant_of-self c = record {
+  lies = empty_lies _ _ _ _ (c.swap.ensures.x_after ∙ c.requires) c.clear.ensures c.clear-2.ensures.items c.clear-3.ensures.items;
+  room_rows = omega (arith, c.clear-2.ensures.capacity, c.self.invariant.room_rows);
+  room_made = omega (arith, c.clear-3.ensures.capacity, c.self.invariant.room_made);
+}
+
+pub returns-clause-idle : goal.returns-clause-idle
+returns-clause-idle c = empty_is _ _ _ _ (c.swap.ensures.x_after ∙ c.requires) c.clear.ensures c.clear-2.ensures.items c.clear-3.ensures.items

@@ -1,0 +1,16 @@
+use Rattle.std.proofs.Common.{◌∙◌}
+use Rattle.linear_solver.proofs.Fetching.{holds_settled, put_settled, set_settled}
+use Rattle.linear_solver.proofs.workspace.Workspace.settle.Goals as goal
+
+pub returns-then-holds : goal.returns-then-holds
+returns-then-holds c = holds_settled _ _ _ (c.holds.ensures c.args.self.now.vars c.requires.wide) c.if-holds.true
+
+pub returns-in-Some : goal.returns-in-Some
+returns-in-Some c =
+    c.hint.ensures
+    ∙ set_settled _ _ _ _ _ (c.holds.ensures c.args.self.now.vars c.requires.wide) c.if-holds.false (c.in-Some.ensures {u = tt}) c.tell_distinct.ensures c.lower.ensures
+
+pub returns-in-None : goal.returns-in-None
+returns-in-None c =
+    c.hint-in-None.ensures
+    ∙ put_settled _ _ _ _ (c.holds.ensures c.args.self.now.vars c.requires.wide) c.if-holds.false (c.in-None.ensures {u = tt}) c.put.ensures

@@ -1,0 +1,381 @@
+//! The room in which the systems of an elimination lie.
+ghost use Rattle.std.specs.Prelude.{◌≡◌, ◌+◌, ◌*◌, ◌<◌, ◌≤◌, [], ◌∷◌, ◌++◌, length, take, drop, slice_set, IsTrue, IfOk, MatchOption, int_lt, Some, true, false, option_map, slice_get, vec_len, vec_capacity};
+ghost use Rattle.std.specs.List.{list_any, slice_index_or};
+ghost use Rattle.xan_lin.specs.Linear.{all_within};
+ghost use Rattle.proof_lines.specs.Cells.{AreDifferent};
+ghost use Rattle.linear_solver.specs.Systems.{linear_of, line_of, same_terms, coefficient, settle, lesser, tight};
+ghost use Rattle.linear_solver.specs.Numbering.{numbered};
+ghost use Rattle.linear_solver.specs.Reducing.{IsPlace, AreDistinct};
+ghost use Rattle.linear_solver.specs.Region.{AreRising, risen, linear_in, row_in, no_row, idle, HasRoom};
+
+use crate::cells::{Cells, WIDTH, are_same, coefficients, constant_of, copied, padded};
+use crate::hash::hash;
+use crate::numbering::number;
+use crate::side::Side;
+use crate::source::Source;
+use crate::steps::Steps;
+use crate::tight::{NewRow, tight};
+use crate::variables::put_risen;
+use arrayvec::ArrayVec;
+use std::alloc::Global;
+use std::marker::Model;
+use std::mem;
+use xan_lin::Memory;
+use xan_pool::{Mark, RowId, RowPool};
+
+// How many rows a system in the making may come to have: one past the limit.
+const MOST_MADE: usize = 2001;
+
+// How many places for hints there are.
+const HINTS: usize = 1 << 16;
+
+/// The room of an elimination. Its rows lie in a pool that it is lent, behind the rows of others: those of the system first, and behind
+/// them those of the next system in the making. What is kept beside a row stands at its place in a vector, and all vectors are taken once.
+///
+/// It is seen as the pool with the rows of others, the variables, the system, and the one in the making.
+#[derive(Drop)]
+pub(crate) struct Workspace {
+    pool: RowPool,
+    base: usize,
+    vars: ArrayVec<u32, 64>,
+    rows: Vec<Side>,
+    made: Vec<Side>,
+    // The place at which coefficients of this hash were found last. It is only a guess, is tested, and is never cleared.
+    hints: Vec<u32>,
+}
+
+impl Model for Workspace {
+    ghost use Rattle.linear_solver.specs.Region.{Work, work_of, IsWork};
+
+    ghost Value = { Work };
+
+    ghost view = { work_of };
+
+    ghost invariant = { IsWork };
+}
+
+impl Workspace {
+    /// A workspace that works on nothing.
+    pub(crate) fn new(alloc: Global) -> Result<Workspace, Memory>
+        ensures { IfOk result (λ work. work ≡ idle) }
+    {
+        let Ok(pool) = RowPool::new(alloc, 0, WIDTH) else {
+            return Err(Memory);
+        };
+        let Ok(rows) = Vec::with_capacity(alloc, MOST_MADE) else {
+            return Err(Memory);
+        };
+        let Ok(made) = Vec::with_capacity(alloc, MOST_MADE) else {
+            return Err(Memory);
+        };
+        let Ok(hints) = vec![in alloc; 0; HINTS] else {
+            return Err(Memory);
+        };
+        Ok(Workspace {
+            pool,
+            base: 0,
+            vars: ArrayVec::new(),
+            rows,
+            made,
+            hints,
+        })
+    }
+
+    /// Takes the pool for an elimination of these variables, and leaves an empty one in its place.
+    pub(crate) fn begin(&mut self, pool: &mut RowPool, vars: &[u32])
+        requires idle { self.old ≡ idle }
+        requires width { pool.old.width ≡ 65 }
+        requires different { AreDifferent vars.now }
+        requires few { length vars.now ≤ 64 }
+        ensures lent { self.new ≡ record idle { pool = pool.old; vars = risen vars.now } }
+        ensures left { pool.new ≡ idle.pool }
+    {
+        mem::swap(&mut self.pool, pool);
+        self.base = self.pool.mark().0;
+        put_risen(vars, &mut self.vars);
+    }
+
+    /// Gives all rows up, and the pool back.
+    pub(crate) fn end(&mut self, pool: &mut RowPool)
+        requires { pool.old ≡ idle.pool }
+        ensures idle { self.new ≡ idle }
+        ensures given { pool.new ≡ self.old.pool }
+    {
+        self.pool.release(Mark(self.base));
+        mem::swap(&mut self.pool, pool);
+        self.base = 0;
+        self.vars.clear();
+        self.rows.clear();
+        self.made.clear();
+    }
+
+    /// The variables, by rising number.
+    pub(crate) fn vars(&self) -> &[u32]
+        ensures vars { result.now ≡ self.now.vars }
+        ensures rising { AreRising 0 result.now }
+        ensures few { length result.now ≤ 64 }
+    {
+        self.vars.as_slice()
+    }
+
+    /// How many rows the system has.
+    pub(crate) fn count(&self) -> usize
+        ensures { result ≡ length self.now.rows }
+    {
+        self.rows.len()
+    }
+
+    /// How many rows the system in the making has.
+    pub(crate) fn count_made(&self) -> usize
+        ensures { result ≡ length self.now.made }
+    {
+        self.made.len()
+    }
+
+    /// The cells of a row of the system.
+    pub(crate) fn cells(&self, at: usize) -> &[i64]
+        requires { at < length self.now.rows }
+        ensures linear { linear_in self.now.vars result.now ≡ linear_of (slice_index_or self.now.rows at no_row) }
+        ensures wide { length result.now ≡ length self.now.vars + 1 }
+        ensures small { IsTrue (all_within (linear_in self.now.vars result.now).terms) }
+    {
+        let end = self.pool.mark().0 - self.made.len();
+        let place = end - (self.rows.len() - at);
+        used_cells(&self.pool, place, self.vars.len() + 1)
+    }
+
+    /// Where a row of the system comes from.
+    pub(crate) fn source(&self, at: usize) -> Source
+        requires { at < length self.now.rows }
+        ensures { result ≡ (slice_index_or self.now.rows at no_row).source }
+    {
+        self.rows[at].source
+    }
+
+    /// The step that gives a row of the system, where there is one.
+    pub(crate) fn line(&self, at: usize) -> u32
+        requires { at < length self.now.rows }
+        ensures { result ≡ line_of (slice_index_or self.now.rows at no_row).source }
+    {
+        match self.source(at) {
+            Source::Line(line) => line,
+            Source::New(_) => 0,
+        }
+    }
+
+    /// The coefficient of the variable of this column in a row of the system.
+    pub(crate) fn coefficient(&self, at: usize, column: usize) -> &i64
+        requires live { at < length self.now.rows }
+        requires column { column < length self.now.vars }
+        ensures { result.now ≡ coefficient (slice_index_or self.now.vars column 0) (slice_index_or self.now.rows at no_row).terms }
+    {
+        let _vars = self.vars();
+        &self.cells(at)[column + 1]
+    }
+
+    /// A row of the system, tightened again.
+    pub(crate) fn again(&self, at: usize) -> NewRow
+        requires { at < length self.now.rows }
+        ensures row { row_in self.now.vars result.cells.items result.side ≡ tight (slice_index_or self.now.rows at no_row).source (linear_of (slice_index_or self.now.rows at no_row)) }
+        ensures wide { length result.cells.items ≡ length self.now.vars + 1 }
+        ensures small { IsTrue (all_within (linear_in self.now.vars result.cells.items).terms) }
+    {
+        tight(self.vars(), copied(self.cells(at)), self.source(at))
+    }
+
+    /// Gives the system in the making up.
+    pub(crate) fn clear_made(&mut self)
+        ensures { self.new ≡ record self.old { made = [] } }
+    {
+        let end = self.pool.mark().0 - self.made.len();
+        self.pool.release(Mark(end));
+        self.made.clear();
+    }
+
+    /// Puts a row behind those in the making, or in place of the one with equal coefficients where its constant is less. A row that holds
+    /// in any case is dropped.
+    pub(crate) fn settle(&mut self, row: &NewRow)
+        requires few { length self.old.rows ≤ 2000 }
+        requires few_made { length self.old.made ≤ 2000 }
+        requires room { HasRoom self.old }
+        requires wide { length row.now.cells.items ≡ length self.old.vars + 1 }
+        requires small { IsTrue (all_within (linear_in self.old.vars row.now.cells.items).terms) }
+        ensures { self.new ≡ record self.old { made = settle self.old.made (row_in self.old.vars row.now.cells.items row.now.side) } }
+    {
+        if row.holds() {
+            return;
+        }
+        self.tell_distinct();
+        let hint = hash(row.cells.as_slice()) as usize % HINTS;
+        match self.place_of_equal(&row.cells, hint) {
+            Some(place) => {
+                self.lower(place, row);
+                self.hint(hint, place);
+            }
+            None => {
+                let place = self.count_made();
+                self.put(row);
+                self.hint(hint, place);
+            }
+        }
+    }
+
+    /// Makes the system in the making the present one. Each row in order gets its steps.
+    pub(crate) fn turn(&mut self, steps: &mut Steps)
+        requires few { length self.old.made ≤ 2001 }
+        requires room { length steps.old + 2 * length self.old.made ≤ 257026 }
+        ensures numbered { numbered steps.old [] self.old.made ≡ record { steps = steps.new; rows = self.new.rows } }
+        ensures turned { self.new ≡ record self.old { rows = self.new.rows; made = [] } }
+        ensures few { length steps.new ≤ length steps.old + 2 * length self.old.made }
+    {
+        let end = self.pool.mark().0 - self.made.len();
+        self.rows.clear();
+        number(self.made.as_slice(), &mut self.rows, steps);
+        self.made.clear();
+        self.pool.slide(Mark(self.base), Mark(end));
+    }
+
+    // The cells of a row in the making.
+    fn made_cells(&self, place: usize) -> &[i64]
+        requires { place < length self.now.made }
+        ensures linear { linear_in self.now.vars result.now ≡ linear_of (slice_index_or self.now.made place no_row) }
+        ensures wide { length result.now ≡ length self.now.vars + 1 }
+    {
+        let start = self.pool.mark().0 - self.made.len();
+        used_cells(&self.pool, start + place, self.vars.len() + 1)
+    }
+
+    // Whether the row at this place of those in the making has these coefficients.
+    fn is_at(&self, place: usize, cells: &Cells) -> bool
+        requires live { place < length self.now.made }
+        requires wide { length cells.now.items ≡ length self.now.vars + 1 }
+        ensures { result ≡ same_terms (slice_index_or self.now.made place no_row).terms (linear_in self.now.vars cells.now.items).terms }
+    {
+        let _vars = self.vars();
+        are_same(
+            coefficients(self.made_cells(place)),
+            coefficients(cells.as_slice()),
+        )
+    }
+
+    // The place of the row with these coefficients. Where the guess is wrong all rows are looked through; each search that finds none
+    // makes the list longer, so that there are few.
+    fn place_of_equal(&self, cells: &Cells, hint: usize) -> Option<usize>
+        requires { length cells.now.items ≡ length self.now.vars + 1 }
+        ensures { MatchOption result (list_any (λ row. same_terms row.terms (linear_in self.now.vars cells.now.items).terms) self.now.made ≡ false)
+            (λ place. IsPlace self.now.made (linear_in self.now.vars cells.now.items).terms place) }
+    {
+        let guess = self.guess(hint);
+        if guess < self.count_made() {
+            if self.is_at(guess, cells) {
+                return Some(guess);
+            }
+        }
+        self.place_of(cells)
+    }
+
+    // A place with these coefficients.
+    fn place_of(&self, cells: &Cells) -> Option<usize>
+        requires { length cells.now.items ≡ length self.now.vars + 1 }
+        ensures { MatchOption result (list_any (λ row. same_terms row.terms (linear_in self.now.vars cells.now.items).terms) self.now.made ≡ false)
+            (λ place. IsPlace self.now.made (linear_in self.now.vars cells.now.items).terms place) }
+    {
+        'rows: for place in 0..self.count_made() {
+            if self.is_at(place, cells) {
+                return Some(place);
+            }
+        }
+        None
+    }
+
+    // The place that was kept for coefficients of this hash.
+    fn guess(&self, hint: usize) -> usize {
+        match self.hints.get(hint) {
+            Some(guess) => *guess as usize,
+            None => 0,
+        }
+    }
+
+    // Keeps the place as a guess for coefficients of this hash.
+    fn hint(&mut self, hint: usize, place: usize)
+        ensures { self.new ≡ self.old }
+    {
+        let Ok(place) = u32::try_from(place) else {
+            return;
+        };
+        if let Some(guess) = self.hints.get_mut(hint) {
+            *guess = place;
+        }
+    }
+
+    // Puts a row behind those in the making, none of which has its coefficients.
+    fn put(&mut self, row: &NewRow)
+        requires few { length self.old.rows ≤ 2000 }
+        requires few_made { length self.old.made ≤ 2000 }
+        requires room { HasRoom self.old }
+        requires wide { length row.now.cells.items ≡ length self.old.vars + 1 }
+        requires small { IsTrue (all_within (linear_in self.old.vars row.now.cells.items).terms) }
+        requires other { list_any (λ r. same_terms r.terms (linear_in self.old.vars row.now.cells.items).terms) self.old.made ≡ false }
+        ensures { self.new ≡ record self.old { made = self.old.made ++ row_in self.old.vars row.now.cells.items row.now.side ∷ [] } }
+    {
+        let Ok(_) = self.pool.push(&padded(row.cells.as_slice())) else {
+            unreachable!()
+        };
+        let Ok(()) = self.made.push(row.side) else {
+            unreachable!()
+        };
+    }
+
+    // Puts a row in place of another one in the making, which has its coefficients, where its constant is less.
+    fn lower(&mut self, place: usize, row: &NewRow)
+        requires wide { length row.now.cells.items ≡ length self.old.vars + 1 }
+        requires small { IsTrue (all_within (linear_in self.old.vars row.now.cells.items).terms) }
+        requires same { IsPlace self.old.made (linear_in self.old.vars row.now.cells.items).terms place }
+        ensures { self.new ≡ record self.old { made = slice_set self.old.made place
+            (lesser (slice_index_or self.old.made place no_row) (row_in self.old.vars row.now.cells.items row.now.side)) } }
+    {
+        if self.is_more_than(row, place) {
+            self.replace(place, row);
+        }
+    }
+
+    // Whether the constant of the row at this place of those in the making is more than that of another row.
+    fn is_more_than(&self, row: &NewRow, place: usize) -> bool
+        requires live { place < length self.now.made }
+        requires wide { length row.now.cells.items ≡ length self.now.vars + 1 }
+        ensures { result ≡ int_lt (linear_in self.now.vars row.now.cells.items).constant (slice_index_or self.now.made place no_row).constant }
+    {
+        *constant_of(row.cells.as_slice()) < *constant_of(self.made_cells(place))
+    }
+
+    // Tells that no two rows in the making have equal coefficients.
+    fn tell_distinct(&self)
+        ensures { AreDistinct self.now.made }
+    {
+        let _count = self.made.len();
+    }
+
+    // Puts a row in place of another one in the making, which has its coefficients.
+    fn replace(&mut self, place: usize, row: &NewRow)
+        requires wide { length row.now.cells.items ≡ length self.old.vars + 1 }
+        requires small { IsTrue (all_within (linear_in self.old.vars row.now.cells.items).terms) }
+        requires same { IsPlace self.old.made (linear_in self.old.vars row.now.cells.items).terms place }
+        ensures { self.new ≡ record self.old { made = slice_set self.old.made place (row_in self.old.vars row.now.cells.items row.now.side) } }
+    {
+        let start = self.pool.mark().0 - self.made.len();
+        let id = RowId(start + place);
+        self.pool.set(id, &padded(row.cells.as_slice()));
+        self.made[place] = row.side;
+    }
+}
+
+// The first cells of a row of a pool.
+fn used_cells(pool: &RowPool, place: usize, used: usize) -> &[i64]
+    requires live { place < length pool.now.rows }
+    requires few { used ≤ pool.now.width }
+    ensures cells { option_map (take used) (slice_get pool.now.rows place) ≡ Some result.now }
+    ensures wide { length result.now ≡ used }
+{
+    let row = pool.row(RowId(place));
+    &row[..used]
+}
