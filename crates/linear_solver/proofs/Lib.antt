@@ -12,7 +12,7 @@ pub mod Makings
 pub mod Summing
 pub mod Turns
 pub mod Givings
-pub mod Whole
+pub mod WholeAnswers
 pub mod Distinct
 pub mod Dividing
 pub mod Tightening

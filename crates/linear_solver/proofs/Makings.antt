@@ -1,5 +1,5 @@
 -- The next system in the making, row after row of the present one.
-use Rattle.std.proofs.Common.{◌≡◌, ℕ, ◌+◌, ◌<◌, ◌≤◌, Bool, true, false, cond, List, [], ◌∷◌, length, drop, get_or, Result, Ok, Err, refl, sym, ◌∙◌, ap, subst, arith}
+use Rattle.std.proofs.Common.{◌≡◌, ℕ, ◌+◌, ◌<◌, ◌≤◌, Bool, true, false, cond, List, [], length, drop, get_or, Result, Ok, Err, refl, sym, ◌∙◌, ap, subst, arith}
 use Rattle.xan_lin.specs.declared.term.LimitKind.{LimitKind}
 use Rattle.linear_solver.specs.declared.source.Sign.TheVariants.{Positive, Negative, Zero}
 use Rattle.linear_solver.specs.Systems.{Row, linear_of, tight, settle, reduced_onto, has_sign, with_sign, with_sum, with_sums, with_all_sums}

@@ -1,5 +1,5 @@
 -- Passes over the rows of a system by their numbers.
-use Rattle.std.proofs.Common.{◌≡◌, ℕ, suc, ◌+◌, ◌<◌, ◌≤◌, Bool, true, false, cond, List, [], ◌∷◌, ◌++◌, length, drop, filter, get_or, Option, Some, None, Result, Ok, Err, refl, sym, ◌∙◌, ap, subst, arith}
+use Rattle.std.proofs.Common.{◌≡◌, ℕ, ◌+◌, ◌<◌, ◌≤◌, Bool, true, false, cond, List, [], ◌∷◌, length, drop, get_or, Option, Some, None, Result, Ok, Err, refl, sym, ◌∙◌, ap, arith}
 use Rattle.std.proofs.lemmas.List.{drop_more, drop_all}
 use Rattle.xan_lin.specs.declared.term.LimitKind.{LimitKind}
 use Rattle.linear_solver.specs.declared.source.Sign.{Sign}
@@ -7,7 +7,6 @@ use Rattle.linear_solver.specs.declared.source.Sign.TheVariants.{Positive, Negat
 use Rattle.linear_solver.specs.declared.choose.Choice.{Choice}
 use Rattle.linear_solver.specs.Systems.{Row, linear_of, line_of, tight, settle, reduced_onto, has_sign, with_sign, with_sum, and_then, with_sums, with_all_sums}
 use Rattle.linear_solver.specs.Choosing.{cannot_hold, refuted_by, candidate, better, best_from}
-use Rattle.linear_solver.specs.Reducing.{Gives}
 use Rattle.linear_solver.specs.Region.{no_row}
 
 -- ---- the first row that cannot hold

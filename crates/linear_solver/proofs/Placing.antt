@@ -1,16 +1,15 @@
 -- Rows that go to their places in the pool, against what is seen of a workspace.
-use Rattle.std.proofs.Common.{◌≡◌, ℕ, zero, suc, ◌+◌, ◌<◌, ◌≤◌, ℤ, pos, Bool, true, false, cond, int_lt, List, [], ◌∷◌, ◌++◌, length, take, drop, set, get_or, refl, sym, ◌∙◌, ap, subst, arith}
+use Rattle.std.proofs.Common.{◌≡◌, ℕ, zero, suc, ◌+◌, ◌<◌, ◌≤◌, ℤ, Bool, true, false, cond, int_lt, List, [], ◌∷◌, ◌++◌, length, take, drop, set, get_or, refl, sym, ◌∙◌, ap, subst, arith}
 use Rattle.std.specs.List.{list_any}
-use Rattle.xan_lin.specs.Linear.{Linear, all_within}
-use Rattle.xan_lin.specs.declared.term.Term.{Term}
+use Rattle.xan_lin.specs.Linear.{all_within}
 use Rattle.xan_pool.specs.Pool.{Pool}
 use Rattle.proof_lines.specs.Cells.{AreDifferent}
 use Rattle.linear_solver.specs.declared.side.Side.{Side}
 use Rattle.linear_solver.specs.declared.step.Step.{Step}
-use Rattle.linear_solver.specs.Systems.{Row, linear_of, same_terms, lesser}
+use Rattle.linear_solver.specs.Systems.{Row, same_terms, lesser}
 use Rattle.linear_solver.specs.Numbering.{System, numbered}
-use Rattle.linear_solver.specs.Reducing.{AreDistinct, IsPlace}
-use Rattle.linear_solver.specs.Region.{AreRising, risen, linear_in, row_in, no_row, rows_in, NumberedSides, numbered_sides, empty_pool, idle, Work, work_at, HasRoom, Lies}
+use Rattle.linear_solver.specs.Reducing.{IsPlace}
+use Rattle.linear_solver.specs.Region.{risen, linear_in, row_in, no_row, rows_in, NumberedSides, numbered_sides, empty_pool, idle, Work, work_at, HasRoom, Lies}
 use Rattle.linear_solver.proofs.Distinct.{distinct-push, distinct-set, equal_terms}
 use Rattle.linear_solver.proofs.Regions.{Put, puts, puts_lie, Replaced, sets, sets_lie, lies_none, lies_begun, begins, clears, clears_lie, turns, turns_lie, turns_numbered, count_rows, count_made, length-taken}
 use Rattle.linear_solver.proofs.Risen.{rising-risen, length-risen}
@@ -35,7 +34,7 @@ pub put_work : (pool new : Pool) (base : ℕ) (vars : List ℕ) (rows made more 
     → Lies new base vars rows more × (work_at new base vars rows more ≡ record w { made = w.made ++ row_in w.vars cells s ∷ [] })
 put_work pool new base vars rows made more cells s w p view =
     subst (λ (v : Work). list_any (λ r. same_terms r.terms (linear_in v.vars cells).terms) v.made ≡ false → all_within (linear_in v.vars cells).terms ≡ true
-      → Lies new base vars rows more × (work_at new base vars rows more ≡ record v { made = v.made ++ row_in v.vars cells s ∷ [] })) view
+    → Lies new base vars rows more × (work_at new base vars rows more ≡ record v { made = v.made ++ row_in v.vars cells s ∷ [] })) view
     (λ other small. (
       puts_lie pool new base vars rows made more cells s p (distinct-push (work_at pool base vars rows made).made (row_in vars cells s) p.lies.distinct other) small,
       puts pool new base vars rows made more cells s p,
@@ -47,7 +46,7 @@ pub set_work : (pool new : Pool) (base : ℕ) (vars : List ℕ) (rows made after
     → Lies new base vars rows after × (work_at new base vars rows after ≡ record w { made = set w.made place (row_in w.vars cells s) })
 set_work pool new base vars rows made after place cells s w p view =
     subst (λ (v : Work). IsPlace v.made (linear_in v.vars cells).terms place → all_within (linear_in v.vars cells).terms ≡ true
-      → Lies new base vars rows after × (work_at new base vars rows after ≡ record v { made = set v.made place (row_in v.vars cells s) })) view
+    → Lies new base vars rows after × (work_at new base vars rows after ≡ record v { made = set v.made place (row_in v.vars cells s) })) view
     (λ same small. (
       sets_lie pool new base vars rows made after place cells s p
           (distinct-set (work_at pool base vars rows made).made place no_row (row_in vars cells s) p.lies.distinct

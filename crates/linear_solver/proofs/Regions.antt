@@ -1,10 +1,10 @@
 -- Rows in the pool: how they are read, and what comes of a row more, of another row, and of fewer rows.
-use Rattle.std.proofs.Common.{◌≡◌, ℕ, zero, suc, ◌+◌, ◌-◌, ◌<◌, ◌≤◌, ℤ, pos, Bool, true, false, ◌&&◌, List, [], ◌∷◌, ◌++◌, length, take, drop, set, get_or, Option, Some, None, option_map, slice_get, refl, sym, ◌∙◌, ap, subst, arith}
+use Rattle.std.proofs.Common.{◌≡◌, ℕ, zero, suc, ◌+◌, ◌-◌, ◌<◌, ◌≤◌, ℤ, true, ◌&&◌, List, [], ◌∷◌, ◌++◌, length, take, drop, set, get_or, Option, Some, option_map, slice_get, refl, sym, ◌∙◌, ap, subst, arith}
 use Rattle.std.proofs.lemmas.List.{append_assoc, length-append, take-append-le, drop-append-le, take_all, drop-take, drop-set-add, take-set-le}
 use Rattle.std.proofs.Math.Seq.{drop-append_seam, take-append_seam}
 use Rattle.std.proofs.lemmas.List.Folds.{list_all-append}
 use Rattle.std.proofs.lemmas.Option.{slice_get-get_or}
-use Rattle.xan_lin.specs.Linear.{Linear, all_within}
+use Rattle.xan_lin.specs.Linear.{all_within}
 use Rattle.xan_pool.specs.Pool.{Pool}
 use Rattle.proof_lines.proofs.Lasts.{get-drop}
 use Rattle.proof_lines.proofs.Proper.{both, join}
@@ -362,8 +362,10 @@ numbered_in vars steps before (c ∷ cells) done (s ∷ sides) e h =
     ∙ ap (λ rs. numbered (steps_with steps s.source s.by) rs (rows_in vars cells sides)) (sym (rows_in-push vars before done c (side_at line) e))
     ∙ numbered_in vars (steps_with steps s.source s.by) (before ++ c ∷ []) cells (done ++ side_at line ∷ []) sides
     (omega (arith, length-append done (side_at line ∷ []), length-append before (c ∷ []))) (omega arith)
-    ∙ ap (λ rs. let t : System = record { steps = (numbered_sides (steps_with steps s.source s.by) (done ++ side_at line ∷ []) sides).steps;
-                  rows = rows_in vars rs (numbered_sides (steps_with steps s.source s.by) (done ++ side_at line ∷ []) sides).sides } in t) (append_assoc before (c ∷ []) cells)
+    ∙ ap (λ rs. let t : System = record {
+      steps = (numbered_sides (steps_with steps s.source s.by) (done ++ side_at line ∷ []) sides).steps;
+      rows = rows_in vars rs (numbered_sides (steps_with steps s.source s.by) (done ++ side_at line ∷ []) sides).sides;
+    } in t) (append_assoc before (c ∷ []) cells)
 
 length-numbered : (steps : List Step) (done sides : List Side) → length (numbered_sides steps done sides).sides ≡ length done + length sides
 unfolding numbered_sides

@@ -1,7 +1,6 @@
 -- Rows in cells: what is done with the cells is done with the terms.
 use Rattle.std.proofs.Common.{◌≡◌, ◌≢◌, ℕ, zero, suc, ◌+◌, ◌<◌, ◌≤◌, ℤ, pos, negsuc, ◌+ℤ◌, ◌*ℤ◌, ◌&&◌, ◌||◌, ◌==◌, Bool, true, false, cond, unsigned_abs, List, [], ◌∷◌, length, map, take, get_or, refl, sym, ◌∙◌, ap, subst, arith}
 use Rattle.std.specs.List.{list_all}
-use Rattle.std.proofs.lemmas.Int.{ints}
 use Rattle.std.proofs.lemmas.Bool.Decides.{Decides-int_eq, nat_tests}
 use Rattle.std.specs.Int.{◌∣◌}
 use Rattle.std.proofs.Math.Nat.{eq-one_of_dvd-one}
@@ -21,10 +20,10 @@ use Rattle.proof_lines.proofs.Proper.{both, join}
 use Rattle.proof_lines.proofs.Quotients.{floor-zero, floor-rest}
 use Rattle.linear_solver.specs.Divisors.{gcd, divisor_from, divisor}
 use Rattle.linear_solver.specs.Systems.{coefficient}
-use Rattle.linear_solver.specs.Merging.{front_coefficient, behind}
+use Rattle.linear_solver.specs.Merging.{behind}
 use Rattle.linear_solver.specs.Region.{AreRising, sparse, linear_in, spread_cells, numbers_divisor, cells_divisor, no_coefficients}
 use Rattle.linear_solver.proofs.Euclid.{gcd-end, gcd_is}
-use Rattle.linear_solver.proofs.Sums.{scaled-cons, no_multiple, sum-multiples, not_same}
+use Rattle.linear_solver.proofs.Sums.{scaled-cons, no_multiple, sum-multiples}
 
 -- ---- they rise, and are within the bound
 

@@ -1,5 +1,5 @@
 -- The sum of two rows in cells.
-use Rattle.std.proofs.Common.{◌≡◌, ℕ, ◌+◌, ◌<◌, ◌^◌, unsigned_abs, ℤ, Bool, true, false, List, [], ◌∷◌, length, Option, Some, None, refl, sym, ◌∙◌, ap, subst, arith}
+use Rattle.std.proofs.Common.{◌≡◌, ℕ, ◌+◌, ◌<◌, ◌^◌, unsigned_abs, ℤ, true, false, List, ◌∷◌, length, Some, sym, ◌∙◌, ap, subst, arith}
 use Rattle.std.specs.List.{list_all}
 use Rattle.xan_lin.specs.Linear.{Linear, is_within, all_within, are_within}
 use Rattle.xan_lin.specs.Terms.{IsRising}

@@ -1,18 +1,12 @@
 -- The sum of two rows, variable by variable.
-use Rattle.std.proofs.Common.{◌≡◌, ◌≢◌, ℕ, zero, suc, ◌+◌, ◌<◌, ◌≤◌, ℤ, pos, negsuc, ◌+ℤ◌, ◌*ℤ◌, ◌&&◌, ◌==◌, Bool, true, false, nat_lt, cond, List, [], ◌∷◌, ◌++◌, length, refl, sym, ◌∙◌, ap, subst, arith}
+use Rattle.std.proofs.Common.{◌≡◌, ◌≢◌, ℕ, zero, suc, ℤ, pos, negsuc, ◌+ℤ◌, ◌*ℤ◌, ◌==◌, Bool, true, false, cond, List, [], ◌∷◌, refl, sym, ◌∙◌, ap, arith}
 use Rattle.std.proofs.lemmas.Bool.Decides.{nat_tests}
-use Rattle.std.proofs.lemmas.List.{append_assoc, append-nil}
-use Rattle.std.proofs.lemmas.List.Folds.{list_all-append}
 use Rattle.std.proofs.lemmas.Int.{ints}
 use Rattle.xan_lin.specs.Terms.{IsRising, with_multiple, sum_terms, scaled_terms}
-use Rattle.xan_lin.specs.Linear.{is_within, all_within}
 use Rattle.xan_lin.specs.declared.term.Term.{Term}
-use Rattle.xan_lin.proofs.Booleans.{is_less, is_not_less}
 use Rattle.xan_lin.proofs.Ring.{zero-mul, zero-add_ℤ}
-use Rattle.xan_lin.proofs.Sums.{IsRising-lower, with_multiple-nonzero, with_multiple-append, sum-before, sum-behind, sum-same, IsRising-sum}
-use Rattle.xan_lin.proofs.Scaling.{IsRising-scaled}
+use Rattle.xan_lin.proofs.Sums.{IsRising-lower, with_multiple-nonzero, with_multiple-append, sum-before, sum-behind, sum-same}
 use Rattle.proof_lines.proofs.Different.{same_number}
-use Rattle.proof_lines.proofs.Proper.{join}
 use Rattle.linear_solver.specs.Merging.{behind}
 
 -- ---- the front of terms

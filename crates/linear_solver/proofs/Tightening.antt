@@ -12,7 +12,7 @@ use Rattle.proof_lines.specs.Check.{is_positive}
 use Rattle.proof_lines.proofs.Proper.{both, join, placed-with_terms, proper-cut}
 use Rattle.proof_lines.proofs.Quotients.{cut-small}
 use Rattle.linear_solver.specs.Divisors.{divisor}
-use Rattle.linear_solver.specs.Systems.{Row, row_of, divided_by, tight}
+use Rattle.linear_solver.specs.Systems.{row_of, divided_by, tight}
 use Rattle.linear_solver.specs.Region.{AreRising, sparse, linear_in}
 use Rattle.linear_solver.specs.declared.source.Source.{Source}
 use Rattle.linear_solver.proofs.Dividing.{divisor-divides}

@@ -7,10 +7,10 @@ use Rattle.proof_lines.proofs.Different.{equals_itself}
 use Rattle.linear_solver.specs.declared.answer.Answer.{Answer}
 use Rattle.linear_solver.specs.declared.step.Step.{Step}
 use Rattle.linear_solver.specs.declared.source.Look.{Look}
-use Rattle.linear_solver.specs.declared.source.Look.TheVariants.{Full, Refuted, Spent, Take}
+use Rattle.linear_solver.specs.declared.source.Look.TheVariants.{Full, Take}
 use Rattle.linear_solver.specs.declared.choose.Choice.{Choice}
-use Rattle.linear_solver.specs.Systems.{Row, next_rows, with_sign}
-use Rattle.linear_solver.specs.Choosing.{choice_of, candidate, is_before, better, best_from, taken, refuted_by, refuted_or, look_at}
+use Rattle.linear_solver.specs.Systems.{Row, next_rows}
+use Rattle.linear_solver.specs.Choosing.{choice_of, candidate, is_before, better, best_from, refuted_by, refuted_or, look_at}
 use Rattle.linear_solver.specs.Numbering.{System, numbered}
 use Rattle.linear_solver.specs.Elimination.{ended, rounds}
 use Rattle.linear_solver.specs.Solving.{Answers}

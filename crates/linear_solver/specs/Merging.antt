@@ -1,9 +1,7 @@
 -- Steps of the sum of two rows, variable by variable: no part of the promise.
-use Rattle.std.specs.Prelude.{ℕ, ℤ, pos, ◌==◌, List, [], ◌∷◌, nat_lt, IsTrue, if◌then◌else◌}
-use Rattle.xan_lin.specs.Terms.{IsRising, sum_terms, scaled_terms}
-use Rattle.xan_lin.specs.Linear.{all_within}
+use Rattle.std.specs.Prelude.{ℕ, ℤ, pos, ◌==◌, List, [], ◌∷◌, if◌then◌else◌}
+use Rattle.xan_lin.specs.Terms.{sum_terms, scaled_terms}
 use Rattle.xan_lin.specs.declared.term.Term.{Term}
-use Rattle.linear_solver.specs.Systems.{Row}
 
 -- the coefficient of a variable in the first term
 abbrev pub front_coefficient : ℕ → List Term → ℤ

@@ -1,5 +1,5 @@
 -- How the rows of systems lie in a region of cells: the constant, and then a coefficient for each variable, by rising variable.
-use Rattle.std.specs.Prelude.{◌≡◌, ℕ, zero, suc, ◌+◌, ◌<◌, ◌≤◌, ℤ, pos, Bool, true, false, Option, Some, None, IsTrue, List, [], ◌∷◌, ◌++◌, length, take, drop, vec_capacity, unsigned_abs, nat_lt, if◌then◌else◌}
+use Rattle.std.specs.Prelude.{◌≡◌, ℕ, suc, ◌+◌, ◌<◌, ◌≤◌, ℤ, pos, Bool, true, false, Option, Some, None, List, [], ◌∷◌, ◌++◌, length, take, drop, vec_capacity, unsigned_abs, nat_lt, if◌then◌else◌}
 use Rattle.std.specs.List.{list_all}
 use Rattle.xan_lin.specs.Terms.{with_multiple}
 use Rattle.xan_lin.specs.Linear.{Linear, all_within, are_within}

@@ -24,8 +24,6 @@ mod solver;
 mod source;
 mod step;
 mod steps;
-#[cfg(test)]
-mod tests;
 mod tight;
 mod tracing;
 mod variables;

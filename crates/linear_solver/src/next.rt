@@ -46,8 +46,10 @@ fn reduce_one(column: usize, at: usize, work: &mut Workspace)
     requires ready { IsOpen column work.old }
     requires few { length work.old.made ≤ 2000 }
     requires live { at < length work.old.rows }
-    ensures { work.new ≡ record work.old { made = (if has_sign Zero (slice_index_or work.old.vars column 0) (slice_index_or work.old.rows at no_row)
-        then settle work.old.made (tight (slice_index_or work.old.rows at no_row).source (linear_of (slice_index_or work.old.rows at no_row))) else work.old.made) } }
+    ensures { work.new ≡ record work.old {
+      made = (if has_sign Zero (slice_index_or work.old.vars column 0) (slice_index_or work.old.rows at no_row)
+          then settle work.old.made (tight (slice_index_or work.old.rows at no_row).source (linear_of (slice_index_or work.old.rows at no_row))) else work.old.made);
+    } }
 {
     if has_sign(Sign::Zero, column, at, work) {
         let row = work.again(at);
@@ -182,10 +184,7 @@ fn summed(column: usize, positive: usize, negative: usize, work: &Workspace) -> 
         (slice_index_or work.now.rows positive no_row) (slice_index_or work.now.rows negative no_row) }
 {
     let vars = work.vars();
-    let by = multipliers_for(
-        size(column, positive, work),
-        size(column, negative, work),
-    );
+    let by = multipliers_for(size(column, positive, work), size(column, negative, work));
     let Some(cells) = combined(work.cells(positive), work.cells(negative), &by) else {
         return None;
     };

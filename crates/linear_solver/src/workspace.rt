@@ -331,8 +331,10 @@ impl Workspace {
         requires wide { length row.now.cells.items ≡ length self.old.vars + 1 }
         requires small { IsTrue (all_within (linear_in self.old.vars row.now.cells.items).terms) }
         requires same { IsPlace self.old.made (linear_in self.old.vars row.now.cells.items).terms place }
-        ensures { self.new ≡ record self.old { made = slice_set self.old.made place
-            (lesser (slice_index_or self.old.made place no_row) (row_in self.old.vars row.now.cells.items row.now.side)) } }
+        ensures { self.new ≡ record self.old {
+          made = slice_set self.old.made place
+              (lesser (slice_index_or self.old.made place no_row) (row_in self.old.vars row.now.cells.items row.now.side));
+        } }
     {
         if self.is_more_than(row, place) {
             self.replace(place, row);

@@ -2,5 +2,6 @@
 mod contexts;
 mod forms;
 mod pools;
+mod solver;
 mod systems;
 mod types;

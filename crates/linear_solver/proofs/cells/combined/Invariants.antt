@@ -1,4 +1,3 @@
-use Rattle.std.proofs.Common.{◌≡◌}
 use Rattle.linear_solver.proofs.Adding.{Adding}
 use Rattle.linear_solver.proofs.cells.combined.Given as goal
 

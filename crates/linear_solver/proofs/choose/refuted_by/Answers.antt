@@ -1,4 +1,4 @@
-use Rattle.std.proofs.Common.{refl, arith}
+use Rattle.std.proofs.Common.{arith}
 use Rattle.linear_solver.proofs.Passes.{refuted_here, refuted_later, refuted_never}
 use Rattle.linear_solver.proofs.choose.refuted_by.Goals as goal
 

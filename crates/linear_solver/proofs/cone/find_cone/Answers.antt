@@ -1,4 +1,4 @@
-use Rattle.std.proofs.Common.{arith, ap, length, sym, ◌∙◌}
+use Rattle.std.proofs.Common.{arith}
 use Rattle.linear_solver.proofs.Reaching.{walks_none, walks_past, walks_more, walks_same, walks_all}
 use Rattle.linear_solver.proofs.cone.find_cone.Goals as goal
 

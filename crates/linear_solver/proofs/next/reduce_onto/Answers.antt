@@ -1,4 +1,4 @@
-use Rattle.std.proofs.Common.{refl, ap, length, arith}
+use Rattle.std.proofs.Common.{ap, length, arith}
 use Rattle.linear_solver.proofs.Makings.{open_kept, reduces_begin, reduces_next, reduces_end}
 use Rattle.linear_solver.proofs.next.reduce_onto.Goals as goal
 

@@ -1,8 +1,8 @@
-use Rattle.std.proofs.Common.{rules, w64, FitsSigned, ◌≡◌, ◌∙◌, sym, ap, subst, get_or, true, List, ℕ, length, arith}
+use Rattle.std.proofs.Common.{rules, w64, FitsSigned, ◌≡◌, sym, ap, subst, get_or, true, List, ℕ, length, arith}
 use Rattle.std.proofs.lemmas.Int.{to_z-of_z}
 use Rattle.xan_lin.specs.Linear.{all_within}
-use Rattle.linear_solver.specs.Systems.{size, tight}
-use Rattle.linear_solver.specs.Region.{no_row, linear_in, row_in}
+use Rattle.linear_solver.specs.Systems.{size}
+use Rattle.linear_solver.specs.Region.{no_row, linear_in}
 use Rattle.linear_solver.proofs.Summing.{pair_of, past, small, sums_as, sum-wide}
 use Rattle.linear_solver.proofs.next.summed.Goals as goal
 

@@ -1,4 +1,4 @@
-use Rattle.std.proofs.Common.{refl, ap, sym, length, arith}
+use Rattle.std.proofs.Common.{refl, ap, length, arith}
 use Rattle.linear_solver.proofs.Makings.{open_kept, kept_more, sums_begin, sums_next, sums_limit, sums_end}
 use Rattle.linear_solver.proofs.next.with_sums.Goals as goal
 

@@ -1,4 +1,4 @@
-use Rattle.std.proofs.Common.{refl, ap, sym, ◌∙◌, slice_get, length, arith}
+use Rattle.std.proofs.Common.{refl, ap, sym, ◌∙◌, slice_get, arith}
 use Rattle.linear_solver.proofs.Turns.{taken_among, turns_begin, turns_end, turns_last, turns_fail, turns_few, turns_more, ready_now}
 use Rattle.linear_solver.proofs.rounds.rounds.Goals as goal
 

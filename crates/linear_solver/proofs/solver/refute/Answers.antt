@@ -1,4 +1,4 @@
-use Rattle.std.proofs.Common.{sym, subst, All, List}
+use Rattle.std.proofs.Common.{subst, All, List}
 use Rattle.xan_lin.specs.Linear.{Linear, IsForm}
 use Rattle.linear_solver.specs.Elimination.{refutation}
 use Rattle.linear_solver.specs.Solving.{Answers}

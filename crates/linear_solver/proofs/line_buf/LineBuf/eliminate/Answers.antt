@@ -1,8 +1,8 @@
-use Rattle.std.proofs.Common.{◌≡◌, refl, ◌∙◌, ap, length, sym, subst, List, ℕ, arith}
+use Rattle.std.proofs.Common.{refl, ◌∙◌, ap, length, sym, subst, List, ℕ, arith}
 use Rattle.proof_lines.specs.Cells.{AreDifferent}
 use Rattle.linear_solver.proofs.Closing.{cone-different}
 use Rattle.linear_solver.proofs.Risen.{length-risen}
-use Rattle.linear_solver.proofs.Whole.{past_magnitude, past_cone, whole_of, closed_of, start_of}
+use Rattle.linear_solver.proofs.WholeAnswers.{whole_of, closed_of, start_of}
 use Rattle.linear_solver.proofs.line_buf.LineBuf.eliminate.Goals as goal
 
 pub begin-requires-clause-different : goal.begin-requires-clause-different

@@ -1,4 +1,4 @@
-use Rattle.std.proofs.Common.{◌∙◌, ap, arith}
+use Rattle.std.proofs.Common.{◌∙◌}
 use Rattle.linear_solver.proofs.Placing.{begun_lies, begun_is}
 use Rattle.linear_solver.proofs.Regions.{idle_is}
 use Rattle.linear_solver.proofs.workspace.Workspace.begin.Goals as goal

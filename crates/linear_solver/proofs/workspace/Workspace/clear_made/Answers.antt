@@ -1,4 +1,4 @@
-use Rattle.std.proofs.Common.{◌≡◌, ◌-◌, ◌+◌, length, arith}
+use Rattle.std.proofs.Common.{arith}
 use Rattle.linear_solver.proofs.Placing.{clear_work}
 use Rattle.linear_solver.proofs.workspace.Workspace.clear_made.Goals as goal
 

@@ -1,4 +1,4 @@
-use Rattle.std.proofs.Common.{rules, w64, FitsSigned, ◌≡◌, ◌∙◌, ◌∷◌, ap, sym, subst, int_lt, drop, List, ℤ, to_z, of_z}
+use Rattle.std.proofs.Common.{rules, w64, FitsSigned, ◌≡◌, ◌∙◌, ◌∷◌, ap, subst, int_lt, drop, List, ℤ, to_z, of_z}
 use Rattle.std.proofs.lemmas.Int.{to_z-of_z}
 use Rattle.linear_solver.proofs.Fetching.{constant_in}
 use Rattle.linear_solver.proofs.workspace.Workspace.is_more_than.Goals as goal

@@ -1,4 +1,3 @@
-use Rattle.std.proofs.Common.{◌∙◌, arith}
 use Rattle.linear_solver.proofs.Placing.{empty_lies, empty_is}
 use Rattle.linear_solver.proofs.workspace.Workspace.new.Goals as goal
 

@@ -1,4 +1,4 @@
-use Rattle.std.proofs.Common.{sym, ◌∙◌, ap, ◌+◌, ◌*◌, [], length, arith}
+use Rattle.std.proofs.Common.{sym, ◌∙◌, ap, [], length, arith}
 use Rattle.linear_solver.specs.Region.{numbered_sides}
 use Rattle.linear_solver.proofs.Regions.{count_made}
 use Rattle.linear_solver.proofs.Placing.{turn_work}

@@ -1,5 +1,5 @@
 //! The systems of the table.
-use crate::Answer;
+use linear_solver::Answer;
 use xan_lin::LimitKind;
 
 /// Rows, a goal, the answer, and the text of the lines where it is `Proved` (empty: any that are accepted).

@@ -1,10 +1,10 @@
 -- The elimination from the cone on, with its variables by rising number.
-use Rattle.std.proofs.Common.{◌≡◌, ℕ, ◌≤◌, Bool, true, false, cond, nat_lt, List, [], length, Result, Ok, Err, refl, sym, ◌∙◌, ap, subst, arith}
+use Rattle.std.proofs.Common.{◌≡◌, ℕ, Bool, true, false, cond, nat_lt, List, length, Result, Ok, Err, refl, sym, ◌∙◌, ap, subst}
 use Rattle.xan_lin.specs.Linear.{Linear, negated_row_of}
 use Rattle.xan_lin.specs.declared.term.LimitKind.{LimitKind}
 use Rattle.xan_lin.specs.declared.term.LimitKind.TheVariants as limit
 use Rattle.xan_lin.specs.declared.term.TooLarge.{TooLarge}
-use Rattle.proof_lines.specs.Cells.{AreDifferent, are_among}
+use Rattle.proof_lines.specs.Cells.{are_among}
 use Rattle.linear_solver.specs.declared.answer.Answer.{Answer}
 use Rattle.linear_solver.specs.declared.answer.Answer.TheVariants.{Limit}
 use Rattle.linear_solver.specs.declared.step.Step.{Step}

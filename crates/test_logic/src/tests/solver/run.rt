@@ -1,8 +1,8 @@
 //! How a system of a test is run.
-ghost use Rattle.std.specs.Prelude.{◌≡◌, ◌+◌, ◌≤◌, ◌<◌, ◌^◌, length};
-
-use crate::{Answer, LineBuf, refute};
+use crate::tests::solver::room::{held_pool, is_held};
+use crate::tests::systems::add;
 use index_sorts::Context;
+use linear_solver::{Answer, LineBuf, refute};
 use proof_lines::{Line, check_lines, read_lines, write_lines};
 use std::alloc::Global;
 use xan_lin::Form;
@@ -14,16 +14,6 @@ pub(crate) struct Shown {
     pub(crate) answer: Answer,
     pub(crate) accepted: bool,
     pub(crate) as_written: bool,
-}
-
-// Adds a row that names only variables of the context.
-pub(crate) fn add(context: &mut Context, row: Form) -> Option<()> {
-    let vars = context.vars();
-    if row.terms().iter().all(|term| term.var < vars) {
-        context.add(row).ok()
-    } else {
-        None
-    }
 }
 
 // The context of the rows of a text like `by h +1v0+0;h -1`, with 100 variables.
@@ -41,7 +31,7 @@ pub(crate) fn context_of(alloc: Global, text: &[u8]) -> Option<Context> {
 }
 
 // The row of a text like `by h +1v0+0`.
-fn form_of(alloc: Global, text: &[u8]) -> Option<Form> {
+pub(crate) fn form_of(alloc: Global, text: &[u8]) -> Option<Form> {
     let mut lines = read_lines(alloc, text).ok()?;
     match lines.pop()? {
         Line::Hyp(form) => Some(form),
@@ -68,16 +58,19 @@ fn text_of(alloc: Global, lines: &[Line]) -> Option<Vec<u8>> {
     Some(text)
 }
 
-/// What the solver shows of a goal over a context; `wanted` is the text of its lines, or nothing where any will do.
+/// What the solver shows of a goal over a context, in a pool that keeps a row of others; `wanted` is the text of its lines, or nothing where any will do.
 pub(crate) fn run_of(
     alloc: Global,
     context: &Context,
     goal: &Form,
     wanted: &[u8],
 ) -> Option<Shown> {
-    let mut pool = RowPool::new(alloc, 4001, 65).ok()?;
+    let mut pool = held_pool(alloc)?;
     let mut buf = LineBuf::new(alloc).ok()?;
     let answer = refute(&mut pool, context, goal, &mut buf);
+    if !is_held(&pool) {
+        return None;
+    }
     if answer != Answer::Proved {
         return Some(Shown {
             answer,

@@ -1,6 +1,6 @@
 //! The table.
-use crate::tests::cases::CASES;
-use crate::tests::run::runs_as;
+use crate::tests::solver::cases::CASES;
+use crate::tests::solver::run::runs_as;
 use std::test::Fail;
 
 #[test]

@@ -1,7 +1,8 @@
 //! The limits, from both sides.
-use crate::Answer;
-use crate::tests::run::{add, run_of};
+use crate::tests::solver::run::run_of;
+use crate::tests::systems::add;
 use index_sorts::Context;
+use linear_solver::Answer;
 use std::alloc::Global;
 use std::test::Fail;
 use xan_lin::{Form, LimitKind, Term};

@@ -1,0 +1,8 @@
+use Rattle.std.proofs.Common.{◌≡◌, ◌+◌, ◌≤◌, length}
+use Rattle.bench_solver.proofs.goals.times_proved.Given as goal
+
+abbrev pub invariant-loop : goal.invariant-loop
+invariant-loop l = record {
+  width : l.pool.width ≡ 65;
+  room : length l.pool.rows + 4001 ≤ l.pool.capacity;
+}
