@@ -1,0 +1,16 @@
+mod LoweredSources
+mod LoweredExamples
+mod LoweredRuns
+mod EachConstruct
+pub mod CodeSizes
+pub mod StraightCode
+pub mod CodeTargets
+pub mod LabelsReached
+pub mod LabelPositions
+pub mod BlockEnds
+pub mod StopsFollowed
+pub mod PlacesNamed
+pub mod BranchesCounted
+pub mod KindsFound
+pub mod NumbersFound
+pub mod LoweredFunctions

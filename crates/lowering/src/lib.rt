@@ -1,0 +1,13 @@
+//! Lowering: the code over places of a core.
+//!
+//! `specs/` says which code a core has. What holds of it are laws: its places are those that the limits count, its conditional branches are
+//! the leaves of tests, it is in blocks whose labels rise, and each label has a jump. It stands on `typed_core` for cores with their closed
+//! types and signatures, and on `three_address` for the code.
+#![tactic(auto)]
+
+mod laws;
+
+pub use crate::laws::{
+    branches_are_leaves, code_is_in_blocks, functions_are_found, kinds_are_found,
+    labels_have_jumps, numbers_name_their_positions, places_are_those_counted,
+};
