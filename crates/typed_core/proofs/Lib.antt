@@ -24,3 +24,11 @@ pub mod NamedOperands
 pub mod NamedJoins
 pub mod NamedStatements
 pub mod NamedPrograms
+pub mod Continued
+pub mod GrownContexts
+pub mod GrownOperands
+pub mod GrownTests
+pub mod GrownJoins
+pub mod GrownStatements
+pub mod GrowthLaws
+pub mod RowsSoFar

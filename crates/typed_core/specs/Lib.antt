@@ -11,6 +11,7 @@ pub mod Tests
 pub mod Joins
 pub mod Statements
 pub mod Goals
+pub mod Growth
 pub mod Reached
 pub mod Proving
 pub mod SourceValues

@@ -8,12 +8,16 @@
 
 mod elaborated;
 mod goal;
+mod growth_laws;
 mod laws;
 mod note;
 mod proved;
 
 pub use crate::elaborated::Elaborated;
 pub use crate::goal::GoalAt;
+pub use crate::growth_laws::{
+    blocks_grow, expressions_grow, rows_name_variables_so_far, tests_grow,
+};
 pub use crate::laws::{
     more_bound_changes_nothing, shaped_cores_fit, shaped_cores_never_stray,
     shaped_declarations_are_closed,
