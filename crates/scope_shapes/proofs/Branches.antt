@@ -4,9 +4,9 @@ use Rattle.xanadu_tree.specs.declared.stmt.Clause.{Clause}
 use Rattle.xanadu_tree.specs.declared.types.Kind.{Kind}
 use Rattle.xanadu_tree.specs.Plain as core
 use Rattle.xanadu_tree.specs.PlainTree as plain
-use Rattle.scope_shapes.specs.Expressions.{expression_test}
-use Rattle.scope_shapes.specs.Faults.{Check, ◌>>=◌}
-use Rattle.scope_shapes.specs.Sites.{Globals, Locals}
+use Rattle.expression_shapes.specs.Expressions.{expression_test}
+use Rattle.type_shapes.specs.Faults.{Check, ◌>>=◌}
+use Rattle.expression_shapes.specs.Sites.{Globals, Locals}
 use Rattle.scope_shapes.specs.Statements.{Done, Body, choice, statement, block, branch, clause_or_none}
 
 module _ (globals : Globals) (given : Kind) (join : Option plain.WrittenClause) (at : ℕ) where

@@ -7,13 +7,13 @@ use Rattle.xanadu_tree.specs.BodyRules.{Point, behind_block as behind, completes
 use Rattle.xanadu_tree.specs.Plain as core
 use Rattle.xanadu_tree.specs.PlainOf.{to_stmts}
 use Rattle.xanadu_tree.specs.PlainTree as plain
-use Rattle.scope_shapes.specs.declared.error.ShapeKind.TheVariants.{Unreachable}
-use Rattle.scope_shapes.specs.Sites.{Globals, Locals, behind_block, without}
-use Rattle.scope_shapes.specs.Expressions.{expression_test}
+use Rattle.type_shapes.specs.declared.error.ShapeKind.TheVariants.{Unreachable}
+use Rattle.expression_shapes.specs.Sites.{Globals, Locals, behind_block, without}
+use Rattle.expression_shapes.specs.Expressions.{expression_test}
 use Rattle.scope_shapes.specs.Statements.{clause_or_none, Done, assign, called, printed, returned, Body, empty, and_then, choice, loop, statement, branch, block, statements, statement_at}
-use Rattle.scope_shapes.proofs.ShapedLists.{then_ok, ok_same, where_ok, Begins, begins_through}
-use Rattle.scope_shapes.proofs.ShapedExpressions.{Knows, site}
-use Rattle.scope_shapes.proofs.ShapedTests.{test_is}
+use Rattle.type_shapes.proofs.ShapedLists.{then_ok, ok_same, where_ok, Begins, begins_through}
+use Rattle.expression_shapes.proofs.ShapedExpressions.{Knows, site}
+use Rattle.expression_shapes.proofs.ShapedTests.{test_is}
 use Rattle.scope_shapes.proofs.ShapedPlaces.{Stands, Grows, grows_same, grows_through, sees, block_stands, block_grows}
 use Rattle.scope_shapes.proofs.ShapedClauses.{clause_or_none_is}
 use Rattle.scope_shapes.proofs.ShapedStatements.{Moves, unchanged_is, declare_is, split_is, assign_is, called_is, printed_is, returned_is}

@@ -16,19 +16,19 @@ use Rattle.xanadu_tree.specs.IndexRules.{Stretch, stretch_of}
 use Rattle.xanadu_tree.specs.KindRules.{kind_of, IsAmong, Setting}
 use Rattle.xanadu_tree.specs.BodyRules.{IsType, Point, stating, AreDifferent, IsStated, IsClauseIfAny}
 use Rattle.xanadu_tree.specs.PlainTree as plain
-use Rattle.scope_shapes.specs.declared.error.ShapeKind.TheVariants.{NamedTwice, OtherKind}
-use Rattle.scope_shapes.specs.Kinds.{same_kind}
-use Rattle.scope_shapes.specs.Linears.{relations_in}
-use Rattle.scope_shapes.specs.Names.{Scope, Types, meaning, or_unknown}
-use Rattle.scope_shapes.specs.Quantifiers.{Frame, empty_frame, with_variable, is_from, bind, opened, is_index, type_in, closed}
-use Rattle.scope_shapes.specs.Sites.{Globals, Locals, variable_kind}
+use Rattle.type_shapes.specs.declared.error.ShapeKind.TheVariants.{NamedTwice, OtherKind}
+use Rattle.type_shapes.specs.Kinds.{same_kind}
+use Rattle.type_shapes.specs.Linears.{relations_in}
+use Rattle.type_shapes.specs.Names.{Scope, Types, meaning, or_unknown}
+use Rattle.type_shapes.specs.Quantifiers.{Frame, empty_frame, with_variable, is_from, bind, opened, is_index, type_in, closed}
+use Rattle.expression_shapes.specs.Sites.{Globals, Locals, variable_kind}
 use Rattle.scope_shapes.specs.Statements.{matching, clause_variable, clause_variables, clause, clause_or_none}
-use Rattle.scope_shapes.proofs.ShapedLists.{then_ok, ok_same, unless_ok, where_ok, all_with, all_found, Begins, begins_same, Ends, ends_same, ends_with, ends_through}
-use Rattle.scope_shapes.proofs.ShapedForms.{Known, known_name}
-use Rattle.scope_shapes.proofs.ShapedQuantifiers.{Wider, Frames, Fits, written, opened_opens, type_is}
-use Rattle.scope_shapes.proofs.ShapedTypes.{same_wider, wider_through, begins_frames, closed_is, closes}
-use Rattle.scope_shapes.proofs.ShapedKinds.{same_kind_is}
-use Rattle.scope_shapes.proofs.ShapedExpressions.{Knows, site}
+use Rattle.type_shapes.proofs.ShapedLists.{then_ok, ok_same, unless_ok, where_ok, all_with, all_found, Begins, begins_same, Ends, ends_same, ends_with, ends_through}
+use Rattle.type_shapes.proofs.ShapedForms.{Known, known_name}
+use Rattle.type_shapes.proofs.ShapedQuantifiers.{Wider, Frames, Fits, written, opened_opens, type_is}
+use Rattle.type_shapes.proofs.ShapedTypes.{same_wider, wider_through, begins_frames, closed_is, closes}
+use Rattle.expression_shapes.proofs.ShapedKinds.{same_kind_is}
+use Rattle.expression_shapes.proofs.ShapedExpressions.{Knows, site}
 use Rattle.scope_shapes.proofs.ShapedPlaces.{IsVariable, IsGood, Stands, Grows, grows_same, seen_one}
 
 -- ---- names that a quantifier opens stand before those around it

@@ -9,15 +9,15 @@ use Rattle.xanadu_tree.specs.declared.types.Packing.{Packing}
 use Rattle.xanadu_tree.specs.declared.tree.declaration.Identifier.{Identifier}
 use Rattle.xanadu_tree.specs.KindRules.{kind_of, IsValue, IsAmong}
 use Rattle.xanadu_tree.specs.BodyRules.{Point, declaring, behind_block as behind}
-use Rattle.scope_shapes.specs.declared.error.ShapeKind.TheVariants.{NamedTwice}
-use Rattle.scope_shapes.specs.Kinds.{kind_at}
-use Rattle.scope_shapes.specs.Names.{first}
-use Rattle.scope_shapes.specs.Sites.{Locals, declared, new_variable, behind_block, without, variable_kind}
+use Rattle.type_shapes.specs.declared.error.ShapeKind.TheVariants.{NamedTwice}
+use Rattle.type_shapes.specs.Kinds.{kind_at}
+use Rattle.type_shapes.specs.Names.{first}
+use Rattle.expression_shapes.specs.Sites.{Locals, declared, new_variable, behind_block, without, variable_kind}
 use Rattle.scope_shapes.specs.Statements.{split_names}
-use Rattle.scope_shapes.proofs.ShapedLists.{then_ok, ok_same, unless_ok, all_weaker, all_with, all_at, Begins, begins_same, begins_with, begins_through, begins_get, Ends, ends_same, ends_with, ends_through, ends_left, length_both}
-use Rattle.scope_shapes.proofs.ShapedForms.{Known}
-use Rattle.scope_shapes.proofs.ShapedKinds.{IsKind}
-use Rattle.scope_shapes.proofs.ShapedExpressions.{Seen, Sees, at_place}
+use Rattle.type_shapes.proofs.ShapedLists.{then_ok, ok_same, unless_ok, all_weaker, all_with, all_at, Begins, begins_same, begins_with, begins_through, begins_get, Ends, ends_same, ends_with, ends_through, ends_left, length_both}
+use Rattle.type_shapes.proofs.ShapedForms.{Known}
+use Rattle.expression_shapes.proofs.ShapedKinds.{IsKind}
+use Rattle.expression_shapes.proofs.ShapedExpressions.{Seen, Sees, at_place}
 
 -- a variable that a name means is visible, and has a kind
 pub record IsVariable (visible : List ℕ) (kinds : List Kind) (x : ℕ) : Type 0 where

@@ -19,20 +19,21 @@ use Rattle.xanadu_tree.specs.PlainOf.{to_stmts}
 use Rattle.xanadu_tree.specs.PlainTree as plain
 use Rattle.xanadu_tree.specs.Written.{IsWritten}
 use Rattle.xanadu_tree.proofs.ShapedReturns.{none_give, one_give}
-use Rattle.scope_shapes.specs.declared.error.ShapeKind.TheVariants.{Completes}
-use Rattle.scope_shapes.specs.Names.{Scope, no_types}
-use Rattle.scope_shapes.specs.Headers.{Header, no_functions, type_names, packings, headers, main_number}
-use Rattle.scope_shapes.specs.Sites.{Globals}
+use Rattle.type_shapes.specs.declared.error.ShapeKind.TheVariants.{Completes}
+use Rattle.type_shapes.specs.Names.{Scope, no_types}
+use Rattle.type_shapes.specs.Headers.{Header, no_functions, type_names, packings, headers, main_number}
+use Rattle.expression_shapes.specs.Sites.{Globals}
 use Rattle.scope_shapes.specs.Statements.{block}
-use Rattle.scope_shapes.specs.Shape.{parameter_names, entry, Inner, inner, inners, fun, funs, globals, finished, shape}
-use Rattle.scope_shapes.proofs.ShapedLists.{then_ok, ok_same, unless_ok, all_at, all_weaker, Begins}
-use Rattle.scope_shapes.proofs.ShapedTypes.{types_fit, packings_are}
-use Rattle.scope_shapes.proofs.ShapedHeaders.{IsHeader, kind_is_value}
-use Rattle.scope_shapes.proofs.ShapedKinds.{IsKind, kind_of_type}
-use Rattle.scope_shapes.proofs.ShapedExpressions.{Knows, site, seen_header}
+use Rattle.type_shapes.specs.Headers.{parameter_names}
+use Rattle.scope_shapes.specs.Shape.{no_locals, entered, Inner, inner_in, inner, inners, fun, funs, no_globals, globals, walked, finished, shape}
+use Rattle.type_shapes.proofs.ShapedLists.{then_ok, ok_same, unless_ok, all_at, all_weaker, Begins}
+use Rattle.type_shapes.proofs.ShapedTypes.{types_fit, packings_are}
+use Rattle.type_shapes.proofs.ShapedHeaders.{IsHeader, kind_is_value}
+use Rattle.expression_shapes.proofs.ShapedKinds.{IsKind, kind_of_type}
+use Rattle.expression_shapes.proofs.ShapedExpressions.{Knows, site, seen_header}
 use Rattle.scope_shapes.proofs.ShapedPlaces.{IsVariable, IsGood, Stands}
 use Rattle.scope_shapes.proofs.ShapedBodies.{block_is}
-use Rattle.scope_shapes.proofs.ShapedNames.{names_lower, IsIn, AllDiffer, name_of, IsTable, headers_are, IsMainHeader, main_is}
+use Rattle.type_shapes.proofs.ShapedNames.{names_lower, IsIn, AllDiffer, name_of, IsTable, headers_are, IsMainHeader, main_is}
 
 -- ---- where a body begins
 
@@ -67,8 +68,8 @@ good_kinds : (P : List Packing) (reach : List Stretch) (ts : List CoreTy) → Al
 good_kinds P reach [] are = tt
 good_kinds P reach (t ∷ ts) are = ((kind_is_value t, kind_of_type P reach t are.0), good_kinds P reach ts are.1)
 
-entry_stands : (P : List Packing) (h : Header) → IsHeader P h → Stands P (entry h) (start_point h)
-unfolding entry
+entry_stands : (P : List Packing) (h : Header) → IsHeader P h → Stands P (entered h no_locals) (start_point h)
+unfolding entered
 entry_stands P h is = record {
   names = parameters_stand (length h.params) (map kind_of h.params) h.declaration.parameters 0 [] (sym (length-map h.params kind_of)) (omega (arith, is.count)) tt;
   good = good_kinds P (stretch_of 0 h.quant ∷ []) h.params is.params;
@@ -77,8 +78,8 @@ entry_stands P h is = record {
   indices = refl;
 }
 
-entry_kinds : (h : Header) → (entry h).kinds ≡ map kind_of h.params
-unfolding entry
+entry_kinds : (h : Header) → (entered h no_locals).kinds ≡ map kind_of h.params
+unfolding entered
 entry_kinds h = refl
 
 -- ---- a body
@@ -91,13 +92,17 @@ pub record HasBody (globals : Globals) (h : Header) (b : Inner) : Type 0 where
   pub begins : Begins (map kind_of h.params) b.kinds
 
 inner_is : (globals : Globals) (h : Header) (b : Inner) → Knows globals → IsHeader globals.packings h → inner globals h ≡ Ok b → HasBody globals h b
-unfolding inner
+unfolding inner inner_in
 inner_is globals h b knows is e =
-    let s = then_ok (block globals h.given.kind h.declaration.body (entry h)) _ b e in
-    let u = unless_ok s.value.0.completes Completes h.declaration.at (Ok (record { kinds = s.value.1.kinds; stmts = s.value.0.stmts })) b s.second in
+    let r = then_ok (inner_in globals h no_locals) (λ z. Ok (record { kinds = z.1.kinds; stmts = z.0 })) b e in
+    let s = then_ok (block globals h.given.kind h.declaration.body (entered h no_locals)) _ r.value r.first in
+    let u = unless_ok s.value.0.completes Completes h.declaration.at (Ok (s.value.0.stmts, s.value.1)) r.value s.second in
     let st = entry_stands globals.packings h is in
-    let body = block_is globals h.given.kind knows h.declaration.body (entry h) (start_point h) s.value st s.first in
-    subst (HasBody globals h) (ok_same (record { kinds = s.value.1.kinds; stmts = s.value.0.stmts }) b u.1) (record {
+    let body = block_is globals h.given.kind knows h.declaration.body (entered h no_locals) (start_point h) s.value st s.first in
+    let same = ok_same (s.value.0.stmts, s.value.1) r.value u.1 in
+    let made : record { kinds = s.value.1.kinds; stmts = s.value.0.stmts } ≡ b =
+    ap (λ z. record { kinds = z.1.kinds; stmts = z.0 }) same ∙ ok_same (record { kinds = r.value.1.kinds; stmts = r.value.0 }) b r.second in
+    subst (HasBody globals h) made (record {
       after = body.after;
       are = body.is s.value.1.kinds (record { rest = []; is = sym (append-nil s.value.1.kinds) });
       variables = body.stands.variables;
@@ -261,7 +266,7 @@ record Program (g : Globals) : Type 0 where
   knows : Knows g
   table : IsTable g.packings g.functions
 
-globals_are : (tree : plain.Tree) (g : Globals) → IsWritten tree → globals tree ≡ Ok g → Program g
+globals_are : (tree : plain.Tree) (g : Globals) → IsWritten tree → globals tree no_globals ≡ Ok g → Program g
 unfolding globals
 globals_are tree g written e =
     let t = then_ok (type_names tree.declarations no_types) _ g e in
@@ -291,8 +296,7 @@ program_is g bs number p m zip =
       main = main_function_is g m.header at.inner number (all_at (IsHeader g.packings) g.functions.headers number m.header p.table.headers m.at) at.body m.name m.params m.result;
     }
 
--- what the walk finishes with
-pub finished_is_shaped : (tree : plain.Tree) (end : ℕ) (g : Globals) (number : ℕ) (bs : List Inner) → IsWritten tree → globals tree ≡ Ok g
+finished_is_shaped : (tree : plain.Tree) (end : ℕ) (g : Globals) (number : ℕ) (bs : List Inner) → IsWritten tree → globals tree no_globals ≡ Ok g
     → main_number g.functions end ≡ Ok number → inners g g.functions.headers [] ≡ Ok bs → Shaped (finished g bs number)
 finished_is_shaped tree end g number bs written declared main bodies =
     let p = globals_are tree g written declared in
@@ -301,11 +305,22 @@ finished_is_shaped tree end g number bs written declared main bodies =
     subst (λ fs. Shaped (record { types = g.packings; funs = fs; main = number })) (sym (funs_are g.functions.headers bs))
     (program_is g bs number p (main_is g.packings g.functions end number p.table main) zip)
 
+-- what the walk finishes with
+abbrev EndsShaped : ℕ × List Inner × Globals → Type 0
+EndsShaped z = Shaped (finished z.2 z.1 z.0)
+
+pub walked_is_shaped : (tree : plain.Tree) (end number : ℕ) (bs : List Inner) (g : Globals) → IsWritten tree → walked tree end no_globals [] ≡ Ok (number, bs, g)
+    → Shaped (finished g bs number)
+unfolding walked
+walked_is_shaped tree end number bs g written e =
+    let p = then_ok (globals tree no_globals) _ (number, bs, g) e in
+    let m = then_ok (main_number p.value.functions end) _ (number, bs, g) p.second in
+    let b = then_ok (inners p.value p.value.functions.headers []) _ (number, bs, g) m.second in
+    subst EndsShaped (ok_same (m.value, b.value, p.value) (number, bs, g) b.second)
+    (finished_is_shaped tree end p.value m.value b.value written p.first m.first b.first)
+
 pub shape_is_shaped : (tree : plain.Tree) (end : ℕ) (y : core.Program) → IsWritten tree → shape tree end ≡ Ok y → Shaped y
 unfolding shape
 shape_is_shaped tree end y written e =
-    let g = then_ok (globals tree) _ y e in
-    let m = then_ok (main_number g.value.functions end) _ y g.second in
-    let b = then_ok (inners g.value g.value.functions.headers []) _ y m.second in
-    subst Shaped (ok_same (finished g.value b.value m.value) y b.second)
-    (finished_is_shaped tree end g.value m.value b.value written g.first m.first b.first)
+    let w = then_ok (walked tree end no_globals []) _ y e in
+    subst Shaped (ok_same (finished w.value.2 w.value.1 w.value.0) y w.second) (walked_is_shaped tree end w.value.0 w.value.1 w.value.2 written w.first)

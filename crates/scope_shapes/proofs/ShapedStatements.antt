@@ -12,19 +12,19 @@ use Rattle.xanadu_tree.specs.BodyRules.{IsType, Point, declaring, completes, IsC
 use Rattle.xanadu_tree.specs.Plain as core
 use Rattle.xanadu_tree.specs.PlainTree as plain
 use Rattle.xanadu_tree.specs.Written.{expression_at}
-use Rattle.scope_shapes.specs.declared.error.ShapeKind.TheVariants.{NamedTwice}
-use Rattle.scope_shapes.specs.Faults.{Check, ◌>>=◌}
-use Rattle.scope_shapes.specs.Kinds.{element_kind, parts_of}
-use Rattle.scope_shapes.specs.Names.{meaning, or_unknown}
-use Rattle.scope_shapes.specs.Sites.{Globals, Locals, Typed, variable, variable_kind, declared, asked, asked_array, asked_tuple, asked_value}
-use Rattle.scope_shapes.specs.Expressions.{cell, call, count, expression, indexed, primary, arguments}
+use Rattle.type_shapes.specs.declared.error.ShapeKind.TheVariants.{NamedTwice}
+use Rattle.type_shapes.specs.Faults.{Check, ◌>>=◌}
+use Rattle.type_shapes.specs.Kinds.{element_kind, parts_of}
+use Rattle.type_shapes.specs.Names.{meaning, or_unknown}
+use Rattle.expression_shapes.specs.Sites.{Globals, Locals, Typed, variable, variable_kind, declared, asked, asked_array, asked_tuple, asked_value}
+use Rattle.expression_shapes.specs.Expressions.{cell, call, count, expression, indexed, primary, arguments}
 use Rattle.scope_shapes.specs.Statements.{Done, goes_on, ends, declare, split_names, parts_for, split, stored, assign, called, printed, return_none, return_value, returned}
-use Rattle.scope_shapes.specs.Sites.{called as callee}
-use Rattle.scope_shapes.proofs.ShapedLists.{then_ok, ok_same, unless_ok, Begins, begins_same, begins_through, begins_get}
-use Rattle.scope_shapes.proofs.ShapedKinds.{IsKind, kind_of_type, asked_is, asked_tuple_is, asked_value_is, counted_is, tuple_is}
-use Rattle.scope_shapes.proofs.ShapedExpressions.{Knows, site, Sees, Has, variable_is}
-use Rattle.scope_shapes.proofs.ShapedOperands.{expression_is, indexed_is, primary_is}
-use Rattle.scope_shapes.proofs.ShapedHeaders.{kind_is_value}
+use Rattle.expression_shapes.specs.Sites.{called as callee}
+use Rattle.type_shapes.proofs.ShapedLists.{then_ok, ok_same, unless_ok, Begins, begins_same, begins_through, begins_get}
+use Rattle.expression_shapes.proofs.ShapedKinds.{IsKind, kind_of_type, asked_is, asked_tuple_is, asked_value_is, counted_is, tuple_is}
+use Rattle.expression_shapes.proofs.ShapedExpressions.{Knows, site, Sees, Has, variable_is}
+use Rattle.expression_shapes.proofs.ShapedOperands.{expression_is, indexed_is, primary_is}
+use Rattle.type_shapes.proofs.ShapedHeaders.{kind_is_value}
 use Rattle.scope_shapes.proofs.ShapedPlaces.{IsGood, Stands, Grows, grows_same, sees, declared_stands, declared_grows, declared_kind, declaring_none, Splits, split_are, front_none}
 
 -- from locals before a statement to those behind it

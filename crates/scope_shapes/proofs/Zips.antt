@@ -3,10 +3,10 @@ use Rattle.std.proofs.Common.{◌≡◌, List, [], ◌∷◌, map, refl, ap}
 use Rattle.std.specs.Prelude.{zip}
 use Rattle.xanadu_tree.specs.Plain as core
 use Rattle.scope_shapes.specs.BodiesOf.{inner_of}
-use Rattle.scope_shapes.specs.HeadersOf.{header_of}
+use Rattle.type_shapes.specs.HeadersOf.{header_of}
 use Rattle.scope_shapes.specs.Shape.{fun, funs}
 use Rattle.scope_shapes.specs.declared.bodies.Inner.{Inner}
-use Rattle.scope_shapes.specs.declared.headers.Header.{Header}
+use Rattle.type_shapes.specs.declared.headers.Header.{Header}
 
 abbrev pub made_of : Header × Inner → core.Fun
 made_of p = fun (header_of p.0) (inner_of p.1)

@@ -1,41 +1,30 @@
 -- The core of a source's tree, or its first fault.
 --
 -- The walk: names of types; bodies of types; headers of functions; main; bodies of functions. Each part is finished before the next begins.
-use Rattle.std.specs.Prelude.{ℕ, ◌+◌, List, [], ◌∷◌, ◌++◌, map, zip, Option, Some, None, Ok, if◌then◌else◌}
-use Rattle.xanadu_tree.specs.declared.tree.index.Binder.{Binder}
+use Rattle.std.specs.Prelude.{ℕ, List, [], ◌∷◌, ◌++◌, map, zip, Ok, if◌then◌else◌}
 use Rattle.xanadu_tree.specs.declared.types.Kind.{Kind}
 use Rattle.xanadu_tree.specs.Plain as core
 use Rattle.xanadu_tree.specs.PlainOf.{to_stmts}
 use Rattle.xanadu_tree.specs.PlainTree as plain
-use Rattle.scope_shapes.specs.declared.error.ShapeKind.TheVariants.{Completes}
-use Rattle.scope_shapes.specs.Faults.{Check, fault, ◌>>=◌}
-use Rattle.scope_shapes.specs.Headers.{Header, no_functions, type_names, packings, headers, main_number}
-use Rattle.scope_shapes.specs.Kinds.{kind_of}
-use Rattle.scope_shapes.specs.Names.{Scope, no_types}
-use Rattle.scope_shapes.specs.Sites.{Globals, Locals}
+use Rattle.type_shapes.specs.declared.error.ShapeKind.TheVariants.{Completes}
+use Rattle.type_shapes.specs.Faults.{Check, fault, ◌>>=◌}
+use Rattle.type_shapes.specs.Headers.{Header, no_functions, type_names, packings, headers, parameter_names, quantifier_names, main_number}
+use Rattle.type_shapes.specs.Kinds.{kind_of}
+use Rattle.type_shapes.specs.Names.{no_types}
+use Rattle.expression_shapes.specs.Sites.{Globals, Locals}
 use Rattle.scope_shapes.specs.Statements.{block}
 
 -- ---- where a body begins
 
--- the names of parameters, numbered from a number on
-unfoldable pub parameter_names : List plain.Parameter → ℕ → Scope → Scope
-parameter_names [] number scope = scope
-parameter_names (p ∷ ps) number scope = parameter_names ps (number + 1) ((p.name.name, number) ∷ scope)
+abbrev pub no_locals : Locals
+no_locals = record { variables = []; kinds = []; indices = []; next = 0 }
 
--- the names of binders, numbered from a number on
-unfoldable pub binder_names : List Binder → ℕ → Scope → Scope
-binder_names [] number scope = scope
-binder_names (b ∷ bs) number scope = binder_names bs (number + 1) ((b.name.name, number) ∷ scope)
-
-unfoldable pub quantifier_names : Option plain.Quantifier → Scope
-quantifier_names None = []
-quantifier_names (Some q) = binder_names q.binders 0 []
-
-unfoldable pub entry : Header → Locals
-entry h = record {
-  variables = parameter_names h.declaration.parameters 0 [];
-  kinds = map kind_of h.params;
-  indices = quantifier_names h.declaration.quantifier;
+-- what is visible behind the parameters and the quantifier of a function, and what was visible already
+unfoldable pub entered : Header → Locals → Locals
+entered h locals = record {
+  variables = parameter_names h.declaration.parameters 0 locals.variables;
+  kinds = locals.kinds ++ map kind_of h.params;
+  indices = quantifier_names h.declaration.quantifier locals.indices;
   next = h.quant.count;
 }
 
@@ -46,10 +35,16 @@ pub record Inner : Type 0 where
   pub kinds : List Kind
   pub stmts : List core.Stmt
 
+-- the statements of a function, whose body does not complete, and what is visible at its end
+unfoldable pub inner_in : Globals → Header → Locals → Check (List core.Stmt × Locals)
+inner_in globals h outer = do
+  (body, locals) ← block globals h.given.kind h.declaration.body (entered h outer)
+  if body.completes then fault Completes h.declaration.at else Ok (body.stmts, locals)
+
 unfoldable pub inner : Globals → Header → Check Inner
 inner globals h = do
-  (body, locals) ← block globals h.given.kind h.declaration.body (entry h)
-  if body.completes then fault Completes h.declaration.at else Ok (record { kinds = locals.kinds; stmts = body.stmts })
+  (stmts, locals) ← inner_in globals h no_locals
+  Ok (record { kinds = locals.kinds; stmts = stmts })
 
 -- the bodies of functions, after those that were read
 unfoldable pub inners : Globals → List Header → List Inner → Check (List Inner)
@@ -79,12 +74,24 @@ fun_of p = fun p.0 p.1
 unfoldable pub funs : List Header → List Inner → List core.Fun
 funs headers bodies = map fun_of (zip headers bodies)
 
-unfoldable pub globals : plain.Tree → Check Globals
-globals tree = do
-  types ← type_names tree.declarations no_types
-  declared ← packings types tree.declarations []
-  functions ← headers types tree.declarations no_functions
+abbrev pub no_globals : Globals
+no_globals = record { types = no_types; packings = []; functions = no_functions }
+
+-- what is declared in the program, behind what was read
+unfoldable pub globals : plain.Tree → Globals → Check Globals
+globals tree before = do
+  types ← type_names tree.declarations before.types
+  declared ← packings types tree.declarations before.packings
+  functions ← headers types tree.declarations before.functions
   Ok (record { types = types; packings = declared; functions = functions })
+
+-- the number of main, the bodies of the functions, and what is declared, each behind what was read
+unfoldable pub walked : plain.Tree → (end : ℕ) → Globals → List Inner → Check (ℕ × List Inner × Globals)
+walked tree end before made = do
+  program ← globals tree before
+  main ← main_number program.functions end
+  bodies ← inners program program.functions.headers made
+  Ok (main, bodies, program)
 
 abbrev pub finished : Globals → List Inner → (main : ℕ) → core.Program
 finished program bodies main = record { types = program.packings; funs = funs program.functions.headers bodies; main = main }
@@ -92,7 +99,5 @@ finished program bodies main = record { types = program.packings; funs = funs pr
 -- The end of the source is the place of the fault that there is no `main`.
 unfoldable pub shape : plain.Tree → (end : ℕ) → Check core.Program
 shape tree end = do
-  program ← globals tree
-  main ← main_number program.functions end
-  bodies ← inners program program.functions.headers []
+  (main, bodies, program) ← walked tree end no_globals []
   Ok (finished program bodies main)

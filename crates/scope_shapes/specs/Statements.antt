@@ -11,13 +11,13 @@ use Rattle.xanadu_tree.specs.Plain as core
 use Rattle.xanadu_tree.specs.PlainOf.{to_stmts}
 use Rattle.xanadu_tree.specs.PlainTree as plain
 use Rattle.xanadu_tree.specs.Written.{expression_at, type_at}
-use Rattle.scope_shapes.specs.declared.error.ShapeKind.TheVariants.{NamedTwice, OtherKind, Unreachable}
-use Rattle.scope_shapes.specs.Expressions.{expression, indexed, primary, expression_test}
-use Rattle.scope_shapes.specs.Faults.{Check, fault, ◌>>=◌}
-use Rattle.scope_shapes.specs.Kinds.{kind_of, same_kind, kind_at, parts_of}
-use Rattle.scope_shapes.specs.Names.{meaning, or_unknown, Types}
-use Rattle.scope_shapes.specs.Quantifiers.{Frame, opened, closed, type_in, is_index}
-use Rattle.scope_shapes.specs.Sites.{Globals, Locals, variable, variable_kind, declared, new_variable, behind_block, asked, asked_tuple, asked_value, counted}
+use Rattle.type_shapes.specs.declared.error.ShapeKind.TheVariants.{NamedTwice, OtherKind, Unreachable}
+use Rattle.expression_shapes.specs.Expressions.{expression, indexed, primary, expression_test}
+use Rattle.type_shapes.specs.Faults.{Check, fault, ◌>>=◌}
+use Rattle.type_shapes.specs.Kinds.{kind_of, same_kind, kind_at, parts_of}
+use Rattle.type_shapes.specs.Names.{meaning, or_unknown, Types}
+use Rattle.type_shapes.specs.Quantifiers.{Frame, opened, closed, type_in, is_index}
+use Rattle.expression_shapes.specs.Sites.{Globals, Locals, variable, variable_kind, declared, new_variable, behind_block, asked, asked_tuple, asked_value, counted}
 
 -- ---- clauses
 

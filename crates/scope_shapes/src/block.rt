@@ -4,20 +4,20 @@ ghost use Rattle.std.specs.Prelude.{◌≡◌, map};
 ghost use Rattle.std.specs.Option.{option_map};
 ghost use Rattle.xanadu_tree.specs.PlainOf.{plain_test};
 ghost use Rattle.xanadu_tree.specs.PlainTreeOf.{plain_block, plain_expression, plain_statement, to_branch, to_statements};
-ghost use Rattle.scope_shapes.specs.Code.{Gives, Steps};
-ghost use Rattle.scope_shapes.specs.Expressions as expressions;
-ghost use Rattle.scope_shapes.specs.SitesOf.{globals_of, locals_of, done_of, body_of};
+ghost use Rattle.type_shapes.specs.Code.{Gives, Steps};
+ghost use Rattle.expression_shapes.specs.Expressions as expressions;
+ghost use Rattle.expression_shapes.specs.SitesOf.{globals_of, locals_of};
+ghost use Rattle.scope_shapes.specs.StatementsOf.{done_of, body_of};
 ghost use Rattle.scope_shapes.specs.Statements as spec;
+ghost use Rattle.scope_shapes.specs.Statements.{statement_at};
 
 use crate::clause::clause_or_none;
-use crate::error::{ShapeError, ShapeKind};
-use crate::places::place_of_statement;
 use crate::simple::{
     Body, Done, and_then, assign, called, choice, declare, empty, printed, returned, split, turns,
 };
-use crate::site::{Globals, Locals, Site};
-use crate::test::test;
+use expression_shapes::{Globals, Locals, Site, test};
 use std::alloc::Global;
+use type_shapes::{ShapeError, ShapeKind};
 use xanadu_tree::{Block, Expression, Kind, Statement, Test};
 
 /// The test of an `if` or a `while`, which stands here.
@@ -39,6 +39,24 @@ fn test_in<'a>(
     )
 }
 
+/// The place of a statement.
+#[tactic(auto, using(xanadu_tree::proofs::TreeEquations::plain_nodes))]
+fn place_of_statement(statement: &Statement) -> u32
+    ensures { result ≡ statement_at (plain_statement statement.now) }
+{
+    match statement {
+        Statement::Declare { at, .. }
+        | Statement::Split { at, .. }
+        | Statement::Print { at, .. }
+        | Statement::If { at, .. }
+        | Statement::While { at, .. }
+        | Statement::Return { at, .. } => *at,
+        Statement::Assign { target, .. } => target.at,
+        Statement::Call { function, .. } => function.at,
+    }
+}
+
+/// A statement, whose names reach what follows it.
 #[cycle(block)]
 #[tactic(auto, using(xanadu_tree::proofs::TreeEquations::plain_nodes), unfolding(crate::specs::Statements::statement))]
 fn statement<'a>(
@@ -123,12 +141,20 @@ pub fn block<'a>(
 {
     let variables = locals.variables.len();
     let indices = locals.indices.len();
-    let body = statements(&written.statements, alloc, globals, given, locals)?;
+    let mut body = empty(alloc);
+    statements(
+        &written.statements,
+        alloc,
+        globals,
+        given,
+        locals,
+        &mut body,
+    )?;
     locals.leave(variables, indices);
     Ok(body)
 }
 
-/// Statements in order.
+/// Adds statements in order.
 #[cycle(block)]
 #[tactic(auto, using(xanadu_tree::proofs::TreeEquations::plain_nodes), unfolding(crate::specs::Statements::statements))]
 fn statements<'a>(
@@ -137,10 +163,10 @@ fn statements<'a>(
     globals: &Globals<'a>,
     given: Kind,
     locals: &mut Locals<'a>,
-) -> Result<Body, ShapeError>
-    ensures { Steps body_of result (locals_of locals.new) (spec.statements (globals_of globals.now) given (to_statements (map plain_statement written.now)) spec.empty (locals_of locals.old)) }
+    body: &mut Body,
+) -> Result<(), ShapeError>
+    ensures { Gives (λ _. (body_of body.new, locals_of locals.new)) result (spec.statements (globals_of globals.now) given (to_statements (map plain_statement written.now)) (body_of body.old) (locals_of locals.old)) }
 {
-    let mut body = empty(alloc);
     for one in written {
         if !body.completes {
             return Err(ShapeError::Fault {
@@ -149,7 +175,7 @@ fn statements<'a>(
             });
         }
         let done = statement(one, alloc, globals, given, locals)?;
-        and_then(&mut body, done)?;
+        and_then(body, done)?;
     }
-    Ok(body)
+    Ok(())
 }

@@ -1,26 +1,23 @@
 //! Bodies of functions.
 
-ghost use Rattle.std.specs.Prelude.{◌≡◌, ◌+◌, map, [], IfOk};
-ghost use Rattle.std.specs.Option.{option_map};
-ghost use Rattle.xanadu_tree.specs.PlainOf.{plain_fun};
-ghost use Rattle.xanadu_tree.specs.PlainTreeOf.{plain_parameter, plain_quantifier};
+ghost use Rattle.std.specs.Prelude.{◌≡◌, ◌++◌, map, IfOk, OnOk};
+ghost use Rattle.xanadu_tree.specs.PlainOf.{plain_fun, plain_stmt};
 ghost use Rattle.scope_shapes.specs.BodiesOf.{inner_of};
-ghost use Rattle.scope_shapes.specs.Code.{Gives};
-ghost use Rattle.scope_shapes.specs.HeadersOf.{header_of};
-ghost use Rattle.scope_shapes.specs.Kinds.{kind_of as kind_of_type};
+ghost use Rattle.type_shapes.specs.Code.{Gives, Steps};
+ghost use Rattle.type_shapes.specs.HeadersOf.{header_of};
+ghost use Rattle.type_shapes.specs.Kinds.{kind_of as kind_of_type};
 ghost use Rattle.scope_shapes.specs.Shape as spec;
-ghost use Rattle.scope_shapes.specs.SitesOf.{globals_of, locals_of};
+ghost use Rattle.expression_shapes.specs.SitesOf.{globals_of, locals_of};
 
 use crate::block::block;
-use crate::error::{ShapeError, ShapeKind};
-use crate::headers::Header;
-use crate::kinds::kind_of;
-use crate::scope::Scope;
-use crate::site::{Globals, Locals};
+use expression_shapes::{Globals, Locals};
 use std::alloc::Global;
+use type_shapes::{
+    Header, Scope, ShapeError, ShapeKind, add_parameter_names, add_quantifier_names, kind_of,
+};
 use xan_io::Memory;
 use xan_seq::Seq;
-use xanadu_tree::{Binder, CoreFun, CoreStmt, CoreTy, Kind, Parameter, Quantifier};
+use xanadu_tree::{CoreFun, CoreStmt, CoreTy, Kind};
 
 /// The kinds of a function's variables, and its statements.
 #[derive(Drop)]
@@ -29,82 +26,65 @@ pub struct Inner {
     stmts: Vec<CoreStmt>,
 }
 
-/// The number after this one.
-fn next_number(number: u32) -> Result<u32, Memory>
-    ensures { IfOk result (λ next. next ≡ number + 1) }
+/// Adds the kinds of types.
+fn add_kinds(types: &[CoreTy], kinds: &mut Vec<Kind>) -> Result<(), Memory>
+    ensures { OnOk result (kinds.new.items ≡ kinds.old.items ++ map kind_of_type types.now) }
 {
-    match number.checked_add(1) {
-        Some(next) => Ok(next),
-        None => Err(Memory),
-    }
-}
-
-/// The names of parameters, numbered from 0.
-#[tactic(auto, unfolding(crate::specs::Shape::parameter_names))]
-fn parameter_names<'a>(alloc: Global, mut parameters: &'a [Parameter]) -> Result<Scope<'a>, Memory>
-    ensures { IfOk result (λ x. x ≡ spec.parameter_names (map plain_parameter parameters.entry.now) 0 []) }
-{
-    let mut scope = Scope::new(alloc);
-    let mut number = 0;
-    while let [parameter, rest @ ..] = parameters {
-        scope.declare(parameter.name.name.bytes(), number)?;
-        number = next_number(number)?;
-        parameters = rest;
-    }
-    Ok(scope)
-}
-
-/// The names of binders, numbered from 0.
-#[tactic(auto, unfolding(crate::specs::Shape::binder_names))]
-fn binder_names<'a>(alloc: Global, mut binders: &'a [Binder]) -> Result<Scope<'a>, Memory>
-    ensures { IfOk result (λ x. x ≡ spec.binder_names binders.entry.now 0 []) }
-{
-    let mut scope = Scope::new(alloc);
-    let mut number = 0;
-    while let [binder, rest @ ..] = binders {
-        scope.declare(binder.name.name.bytes(), number)?;
-        number = next_number(number)?;
-        binders = rest;
-    }
-    Ok(scope)
-}
-
-/// The index names that a function's quantifier binds.
-#[tactic(auto, unfolding(crate::specs::Shape::quantifier_names))]
-fn quantifier_names<'a>(
-    alloc: Global,
-    quantifier: &'a Option<Quantifier>,
-) -> Result<Scope<'a>, Memory>
-    ensures { IfOk result (λ x. x ≡ spec.quantifier_names (option_map plain_quantifier quantifier.now)) }
-{
-    match quantifier {
-        None => Ok(Scope::new(alloc)),
-        Some(written) => binder_names(alloc, &written.binders),
-    }
-}
-
-/// The kinds of types.
-fn kinds_of(alloc: Global, types: &[CoreTy]) -> Result<Vec<Kind>, Memory>
-    ensures { IfOk result (λ x. x.items ≡ map kind_of_type types.now) }
-{
-    let mut kinds = Vec::new(alloc);
     for ty in types {
         kinds.push(kind_of(ty))?;
     }
-    Ok(kinds)
+    Ok(())
 }
 
-/// What is visible where a function's body begins.
-#[tactic(auto, unfolding(crate::specs::Shape::entry))]
-fn entry<'a>(alloc: Global, header: &Header<'a>) -> Result<Locals<'a>, Memory>
-    ensures { IfOk result (λ x. locals_of x ≡ spec.entry (header_of header.now)) }
+/// Nothing is visible.
+fn no_locals<'a>(alloc: Global) -> Locals<'a>
+    ensures { locals_of result ≡ spec.no_locals }
 {
-    Ok(Locals {
-        variables: parameter_names(alloc, &header.declaration.parameters)?,
-        kinds: kinds_of(alloc, &header.params)?,
-        indices: quantifier_names(alloc, &header.declaration.quantifier)?,
-        next: header.quant.count,
-    })
+    Locals {
+        variables: Scope::new(alloc),
+        kinds: Vec::new(alloc),
+        indices: Scope::new(alloc),
+        next: 0,
+    }
+}
+
+/// Makes visible what the header of a function declares.
+#[tactic(auto, unfolding(crate::specs::Shape::entered))]
+fn enter<'a>(header: &Header<'a>, locals: &mut Locals<'a>) -> Result<(), Memory>
+    ensures { OnOk result (locals_of locals.new ≡ spec.entered (header_of header.now) (locals_of locals.old)) }
+{
+    add_parameter_names(&header.declaration.parameters, &mut locals.variables)?;
+    add_kinds(&header.params, &mut locals.kinds)?;
+    add_quantifier_names(&header.declaration.quantifier, &mut locals.indices)?;
+    locals.next = header.quant.count;
+    Ok(())
+}
+
+/// The statements of a function, with what is visible at its end.
+#[tactic(auto, unfolding(crate::specs::Shape::inner_in))]
+fn inner_in<'a>(
+    alloc: Global,
+    globals: &Globals<'a>,
+    header: &Header<'a>,
+    locals: &mut Locals<'a>,
+) -> Result<Vec<CoreStmt>, ShapeError>
+    ensures { Steps (λ x. map plain_stmt x.items) result (locals_of locals.new) (spec.inner_in (globals_of globals.now) (header_of header.now) (locals_of locals.old)) }
+{
+    enter(header, locals)?;
+    let body = block(
+        &header.declaration.body,
+        alloc,
+        globals,
+        header.given.kind,
+        locals,
+    )?;
+    if body.completes {
+        return Err(ShapeError::Fault {
+            at: header.declaration.at,
+            kind: ShapeKind::Completes,
+        });
+    }
+    Ok(body.stmts)
 }
 
 /// The body of a function.
@@ -116,36 +96,29 @@ fn inner_body<'a>(
 ) -> Result<Inner, ShapeError>
     ensures { Gives inner_of result (spec.inner (globals_of globals.now) (header_of header.now)) }
 {
-    let mut locals = entry(alloc, header)?;
-    let given = header.given.kind;
-    let body = block(&header.declaration.body, alloc, globals, given, &mut locals)?;
-    if body.completes {
-        return Err(ShapeError::Fault {
-            at: header.declaration.at,
-            kind: ShapeKind::Completes,
-        });
-    }
+    let mut locals = no_locals(alloc);
+    let stmts = inner_in(alloc, globals, header, &mut locals)?;
     Ok(Inner {
         kinds: locals.kinds,
-        stmts: body.stmts,
+        stmts,
     })
 }
 
-/// The bodies of functions.
+/// Adds the bodies of functions.
 #[tactic(auto, unfolding(crate::specs::Shape::inners))]
-pub fn inners<'a>(
+pub fn add_inners<'a>(
     alloc: Global,
     globals: &Globals<'a>,
     mut headers: &[Header<'a>],
-) -> Result<Vec<Inner>, ShapeError>
-    ensures { Gives (λ x. map inner_of x.items) result (spec.inners (globals_of globals.now) (map header_of headers.entry.now) []) }
+    made: &mut Vec<Inner>,
+) -> Result<(), ShapeError>
+    ensures { Gives (λ _. map inner_of made.new.items) result (spec.inners (globals_of globals.now) (map header_of headers.entry.now) (map inner_of made.old.items)) }
 {
-    let mut made = Vec::new(alloc);
     while let [header, rest @ ..] = headers {
         made.push(inner_body(alloc, globals, header)?)?;
         headers = rest;
     }
-    Ok(made)
+    Ok(())
 }
 
 /// A function of its header and its body.

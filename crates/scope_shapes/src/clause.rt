@@ -3,21 +3,19 @@
 ghost use Rattle.std.specs.Prelude.{◌≡◌, map, []};
 ghost use Rattle.std.specs.Option.{option_map};
 ghost use Rattle.xanadu_tree.specs.PlainTreeOf.{plain_clause, plain_parameter};
-ghost use Rattle.scope_shapes.specs.Code.{Gives, Steps};
-ghost use Rattle.scope_shapes.specs.FrameOf.{frame_of};
-ghost use Rattle.scope_shapes.specs.Quantifiers.{is_index};
-ghost use Rattle.scope_shapes.specs.SitesOf.{locals_of};
+ghost use Rattle.type_shapes.specs.Code.{Gives, Steps};
+ghost use Rattle.type_shapes.specs.FrameOf.{frame_of};
+ghost use Rattle.type_shapes.specs.Quantifiers.{is_index};
+ghost use Rattle.expression_shapes.specs.SitesOf.{locals_of};
 ghost use Rattle.scope_shapes.specs.Statements as spec;
-ghost use Rattle.scope_shapes.specs.TypesOf.{types_of};
+ghost use Rattle.type_shapes.specs.TypesOf.{types_of};
 
-use crate::error::{ShapeError, ShapeKind};
-use crate::frame::{Frame, open};
-use crate::index::known;
-use crate::kinds::{kind_of, same_kind};
-use crate::site::{Locals, kind_of_variable};
-use crate::types::{Types, place_of_type, type_in};
+use expression_shapes::{Locals, kind_of_variable};
 use std::alloc::Global;
 use std::collections::BTreeSet;
+use type_shapes::{
+    Frame, ShapeError, ShapeKind, Types, kind_of, known, open, place_of_type, same_kind, type_in,
+};
 use xan_seq::Seq;
 use xanadu_tree::{Clause, CoreTy, Kind, Parameter, WrittenClause};
 
@@ -34,6 +32,7 @@ fn matching(wanted: Kind, at: u32, ty: CoreTy) -> Result<CoreTy, ShapeError>
     })
 }
 
+/// Whether the clause named the variable before.
 fn is_named(named: &BTreeSet<u32>, number: u32) -> bool
     ensures { result ≡ is_index number named.now.keys }
 {
@@ -65,26 +64,42 @@ fn clause_variable(
     Ok((number, ty))
 }
 
-/// The variables of a clause.
+/// Adds the variables of a clause, and their numbers to those that it named before.
 #[tactic(auto, unfolding(crate::specs::Statements::clause_variables))]
-fn clause_variables(
+fn add_different_variables(
     alloc: Global,
     types: &Types<'_>,
     locals: &Locals<'_>,
     mut parameters: &[Parameter],
+    named: &mut BTreeSet<u32>,
+    vars: &mut Vec<(u32, CoreTy)>,
     frame: &mut Frame,
-) -> Result<Vec<(u32, CoreTy)>, ShapeError>
-    ensures { Steps (λ x. x.items) result (frame_of frame.new) (spec.clause_variables (types_of types.now) (locals_of locals.now) (map plain_parameter parameters.entry.now) [] [] (frame_of frame.old)) }
+) -> Result<(), ShapeError>
+    ensures { Gives (λ _. (vars.new.items, frame_of frame.new)) result (spec.clause_variables (types_of types.now) (locals_of locals.now) (map plain_parameter parameters.entry.now) named.old.keys vars.old.items (frame_of frame.old)) }
 {
-    let mut named = BTreeSet::new(alloc);
-    let mut vars = Vec::new(alloc);
     while let [parameter, rest @ ..] = parameters {
-        let one = clause_variable(alloc, types, locals, parameter, &named, frame)?;
-        named.insert(one.0)?;
+        let one = clause_variable(alloc, types, locals, parameter, named, frame)?;
+        let number = one.0;
         vars.push(one)?;
+        named.insert(number)?;
         parameters = rest;
     }
-    Ok(vars)
+    Ok(())
+}
+
+/// Adds the variables of a clause.
+fn add_variables(
+    alloc: Global,
+    types: &Types<'_>,
+    locals: &Locals<'_>,
+    parameters: &[Parameter],
+    vars: &mut Vec<(u32, CoreTy)>,
+    frame: &mut Frame,
+) -> Result<(), ShapeError>
+    ensures { Gives (λ _. (vars.new.items, frame_of frame.new)) result (spec.clause_variables (types_of types.now) (locals_of locals.now) (map plain_parameter parameters.now) [] vars.old.items (frame_of frame.old)) }
+{
+    let mut named = BTreeSet::new(alloc);
+    add_different_variables(alloc, types, locals, parameters, &mut named, vars, frame)
 }
 
 /// A clause, whose names reach what follows it.
@@ -99,7 +114,15 @@ fn clause<'a>(
 {
     let first = locals.next;
     let mut frame = open(alloc, &mut locals.indices, first, &written.quantifier)?;
-    let vars = clause_variables(alloc, types, locals, &written.variables, &mut frame)?;
+    let mut vars = Vec::new(alloc);
+    add_variables(
+        alloc,
+        types,
+        locals,
+        &written.variables,
+        &mut vars,
+        &mut frame,
+    )?;
     locals.next = frame.next;
     let quant = frame.close(&written.quantifier)?;
     Ok(Clause {

@@ -5,17 +5,18 @@ ghost use Rattle.std.specs.Option.{option_map};
 ghost use Rattle.xanadu_tree.specs.PlainOf.{plain_expr, plain_stmt, plain_test};
 ghost use Rattle.xanadu_tree.specs.PlainTree as plain;
 ghost use Rattle.xanadu_tree.specs.PlainTreeOf.{plain_expression, plain_expressions, plain_indices};
-ghost use Rattle.scope_shapes.specs.Code.{Gives, Steps};
-ghost use Rattle.scope_shapes.specs.Expressions as expressions;
-ghost use Rattle.scope_shapes.specs.SitesOf.{globals_of, locals_of, typed_of, done_of, body_of};
+ghost use Rattle.type_shapes.specs.Code.{Gives, Steps};
+ghost use Rattle.expression_shapes.specs.Expressions as expressions;
+ghost use Rattle.expression_shapes.specs.SitesOf.{globals_of, locals_of, typed_of};
+ghost use Rattle.scope_shapes.specs.StatementsOf.{done_of, body_of};
 ghost use Rattle.scope_shapes.specs.Statements as spec;
 
-use crate::error::{ShapeError, ShapeKind};
-use crate::expression::{call, expression, indexed};
-use crate::kinds::{kind_at, parts_of};
-use crate::places::place_of;
-use crate::site::{Globals, Locals, Site, Typed, asked, asked_tuple, asked_value, variable};
+use expression_shapes::{
+    Globals, Locals, Site, Typed, call, check_kind, check_tuple, check_value, expression, indexed,
+    place_of, variable,
+};
 use std::alloc::Global;
+use type_shapes::{ShapeError, ShapeKind, kind_at, parts_of};
 use xan_io::Memory;
 use xan_seq::Seq;
 use xanadu_tree::{Clause, CoreExpr, CoreStmt, CoreTy, Expression, Identifier, Kind, Test};
@@ -110,28 +111,27 @@ pub fn declare<'a>(
         });
     }
     let typed = value_in(alloc, globals, locals, value)?;
-    let kind = asked_value(place_of(value), typed.kind)?;
+    let kind = check_value(place_of(value), typed.kind)?;
     let number = locals.declare(name, kind)?;
     Ok(goes_on(CoreStmt::Set(number, typed.expr)))
 }
 
-/// Names for the parts of a tuple.
+/// Declares names for the parts of a tuple, and adds their numbers.
 #[tactic(auto, unfolding(crate::specs::Statements::split_names))]
 fn split_names<'a>(
-    alloc: Global,
     locals: &mut Locals<'a>,
     mut names: &'a [Identifier],
     parts: &[CoreTy],
-) -> Result<Vec<u32>, ShapeError>
-    ensures { Steps (λ x. x.items) result (locals_of locals.new) (spec.split_names names.entry.now parts.now [] (locals_of locals.old)) }
+    numbers: &mut Vec<u32>,
+) -> Result<(), ShapeError>
+    ensures { Gives (λ _. (numbers.new.items, locals_of locals.new)) result (spec.split_names names.entry.now parts.now numbers.old.items (locals_of locals.old)) }
 {
-    let mut numbers = Vec::new(alloc);
     while let [name, rest @ ..] = names {
         let number = locals.new_variable(name, kind_at(parts, numbers.len()))?;
         numbers.push(number)?;
         names = rest;
     }
-    Ok(numbers)
+    Ok(())
 }
 
 /// The parts of the tuple type, where there are so many.
@@ -166,9 +166,10 @@ pub fn split<'a>(
     ensures { Steps done_of result (locals_of locals.new) (spec.split (globals_of globals.now) names.now (plain_expression value.now) at (locals_of locals.old)) }
 {
     let typed = value_in(alloc, globals, locals, value)?;
-    let ty = asked_tuple(place_of(value), typed.kind)?;
+    let ty = check_tuple(place_of(value), typed.kind)?;
     let parts = parts_for(globals, ty, names.len(), at)?;
-    let numbers = split_names(alloc, locals, names, parts)?;
+    let mut numbers = Vec::new(alloc);
+    split_names(locals, names, parts, &mut numbers)?;
     Ok(goes_on(CoreStmt::Split(Seq::from_vec(numbers), typed.expr, at)))
 }
 
@@ -215,7 +216,7 @@ pub fn assign<'a>(
     let place = indexed(indices, &site, target.at, whole)?;
     let typed = expression(value, &site)?;
     let kind = place.kind;
-    let value = asked(kind, place_of(value), typed)?;
+    let value = check_kind(kind, place_of(value), typed)?;
     Ok(goes_on(stored(place.expr, value)))
 }
 
@@ -250,7 +251,7 @@ pub fn printed<'a>(
     ensures { Gives done_of result (spec.printed (globals_of globals.now) (locals_of locals.now) (plain_expression value.now)) }
 {
     let typed = value_in(alloc, globals, locals, value)?;
-    let number = asked(Kind::Int, place_of(value), typed)?;
+    let number = check_kind(Kind::Int, place_of(value), typed)?;
     Ok(goes_on(CoreStmt::Print(number)))
 }
 
@@ -280,9 +281,9 @@ fn return_value<'a>(
 ) -> Result<Done, ShapeError>
     ensures { Gives done_of result (spec.return_value (globals_of globals.now) given (locals_of locals.now) (plain_expression value.now) at) }
 {
-    let _kind = asked_value(at, given)?;
+    let _kind = check_value(at, given)?;
     let typed = value_in(alloc, globals, locals, value)?;
-    let value = asked(given, place_of(value), typed)?;
+    let value = check_kind(given, place_of(value), typed)?;
     Ok(ends(CoreStmt::Return(Some(value), at)))
 }
 

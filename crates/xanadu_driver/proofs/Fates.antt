@@ -14,8 +14,8 @@ use Rattle.xanadu_tree.specs.PlainTree as tree
 use Rattle.xanadu_tree.specs.Small.{IsSmall}
 use Rattle.xanadu_tree.specs.Written.{IsWritten, Parses}
 use Rattle.xanadu_tree.proofs.ReadTrees.{read_is_written}
-use Rattle.scope_shapes.specs.declared.error.ShapeKind.{ShapeKind}
-use Rattle.scope_shapes.specs.Faults.{Fault}
+use Rattle.type_shapes.specs.declared.error.ShapeKind.{ShapeKind}
+use Rattle.type_shapes.specs.Faults.{Fault}
 use Rattle.scope_shapes.specs.Shape.{shape}
 use Rattle.xanadu_driver.specs.declared.refusal.Refusal.{Refusal}
 use Rattle.xanadu_driver.specs.declared.refusal.Refusal.TheVariants as refusal

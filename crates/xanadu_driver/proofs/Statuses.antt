@@ -12,7 +12,7 @@ use Rattle.xan_io.specs.Contents.{ReadsAs, replaced}
 use Rattle.xan_io.specs.Faults.{Rose}
 use Rattle.xanadu_driver.specs.declared.answer.Answer.{Answer}
 use Rattle.xanadu_driver.specs.declared.answer.Answer.TheVariants.{Built, NoCommand, ReadFailed, WriteFailed, Memory, Refused}
-use Rattle.scope_shapes.specs.declared.error.ShapeKind.{ShapeKind}
+use Rattle.type_shapes.specs.declared.error.ShapeKind.{ShapeKind}
 use Rattle.xanadu_driver.specs.declared.refusal.Refusal.{Refusal}
 use Rattle.xanadu_driver.specs.declared.refusal.Refusal.TheVariants as refusal
 use Rattle.xanadu_driver.specs.Answers.{status_of, line_of, built_line, refusal_status, refusal_line}

@@ -1,7 +1,7 @@
 -- What each answer of the program says: a status, and a line on the output.
 use Rattle.std.specs.Prelude.{ℕ, List, ◌++◌, codes, decimal}
-use Rattle.scope_shapes.specs.declared.error.ShapeKind.{ShapeKind}
-use Rattle.scope_shapes.specs.Faults.{kind_number}
+use Rattle.type_shapes.specs.declared.error.ShapeKind.{ShapeKind}
+use Rattle.type_shapes.specs.Faults.{kind_number}
 use Rattle.xanadu_driver.specs.declared.answer.Answer.{Answer}
 use Rattle.xanadu_driver.specs.declared.answer.Answer.TheVariants.{Built, NoCommand, ReadFailed, WriteFailed, Memory, Refused}
 use Rattle.xanadu_driver.specs.declared.refusal.Refusal.{Refusal}

@@ -3,7 +3,7 @@ use Rattle.std.specs.Prelude.{◌≡◌, ◌≢◌, ℕ, List, Option, Some}
 use Rattle.std.specs.Io.KnownBytes.{append_known}
 use Rattle.xan_io.specs.Faults.{Rose}
 use Rattle.xan_io.specs.Written.{AppendsPrefix}
-use Rattle.scope_shapes.specs.declared.error.ShapeKind.{ShapeKind}
+use Rattle.type_shapes.specs.declared.error.ShapeKind.{ShapeKind}
 use Rattle.xanadu_driver.specs.declared.answer.Answer.{Answer}
 use Rattle.xanadu_driver.specs.declared.answer.Answer.TheVariants as answer
 use Rattle.xanadu_driver.specs.declared.refusal.Refusal.{Refusal}

@@ -3,7 +3,7 @@
 ghost use Rattle.std.specs.Prelude.{◌≡◌};
 ghost use Rattle.xanadu_driver.specs.Answers.{refusal_status};
 
-use scope_shapes::ShapeKind;
+use type_shapes::ShapeKind;
 
 /// Why a source is not built, in the order in which it is looked for. Places are offsets in bytes.
 #[derive(Clone, Copy)]

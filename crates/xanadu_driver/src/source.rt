@@ -9,8 +9,9 @@ ghost use Rattle.xanadu_driver.specs.Source.{HasTokens, HasTree, IsCore, Stops};
 
 use crate::refusal::Refusal;
 use crate::small::is_small;
-use scope_shapes::{ShapeError, resolve};
+use scope_shapes::resolve;
 use std::alloc::Global;
+use type_shapes::ShapeError;
 use xan_io::Memory;
 use xan_seq::Seq;
 use xanadu_lexer::{LexError, Token, lex};

@@ -5,13 +5,14 @@ use Rattle.xanadu_tree.specs.PlainOf.{plain_test}
 use Rattle.xanadu_tree.specs.PlainTreeOf.{plain_block, plain_clause, plain_expression, plain_statement, to_branch}
 use Rattle.xanadu_tree.proofs.TreeEquations.{plain_statement-If}
 use Rattle.std.specs.Prelude.{Option}
-use Rattle.scope_shapes.specs.Code.{Fails}
-use Rattle.scope_shapes.specs.Expressions as expressions
-use Rattle.scope_shapes.specs.Faults.{Check, ◌>>=◌}
-use Rattle.scope_shapes.specs.Sites.{Locals}
-use Rattle.scope_shapes.specs.SitesOf.{globals_of, locals_of, body_of}
+use Rattle.type_shapes.specs.Code.{Fails}
+use Rattle.expression_shapes.specs.Expressions as expressions
+use Rattle.type_shapes.specs.Faults.{Check, ◌>>=◌}
+use Rattle.expression_shapes.specs.Sites.{Locals}
+use Rattle.expression_shapes.specs.SitesOf.{globals_of, locals_of}
+use Rattle.scope_shapes.specs.StatementsOf.{body_of}
 use Rattle.scope_shapes.specs.Statements as spec
-use Rattle.scope_shapes.proofs.Binds.{then-ok, fails-then}
+use Rattle.type_shapes.proofs.Binds.{then-ok, fails-then}
 use Rattle.scope_shapes.proofs.Branches.{behind_join, behind_no, if-branches}
 use Rattle.scope_shapes.proofs.block.+block.Goals as goal
 

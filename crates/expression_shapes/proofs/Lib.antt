@@ -1,0 +1,6 @@
+pub mod Choices
+pub mod FollowingParts
+pub mod ShapedExpressions
+pub mod ShapedKinds
+pub mod ShapedOperands
+pub mod ShapedTests

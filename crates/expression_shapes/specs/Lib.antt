@@ -1,0 +1,4 @@
+pub mod Expressions
+pub mod NodesOf
+pub mod Sites
+pub mod SitesOf

@@ -1,9 +1,0 @@
-use Rattle.std.proofs.Common.{◌≡◌, length, []}
-use Rattle.scope_shapes.specs.Shape.{binder_names}
-use Rattle.scope_shapes.proofs.bodies.binder_names.Given as goal
-
-abbrev pub invariant-loop-binders : goal.invariant-loop-binders
-invariant-loop-binders l = binder_names l.binders l.number l.scope ≡ binder_names l.fn.binders 0 []
-
-abbrev pub decreases-loop-binders : goal.decreases-loop-binders
-decreases-loop-binders l = length l.binders

@@ -1,6 +1,0 @@
-use Rattle.std.proofs.Common.{arith, sym}
-use Rattle.scope_shapes.proofs.Parts.{has_conjunction-some}
-use Rattle.scope_shapes.proofs.places.has_conjunction.Goals as goal
-
-pub returns-in-len1-up : goal.returns-in-len1-up
-returns-in-len1-up c = sym (has_conjunction-some c.args.rest.now (omega arith))

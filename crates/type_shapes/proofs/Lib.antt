@@ -1,0 +1,10 @@
+pub mod Binds
+pub mod Integers
+pub mod Scopes
+pub mod ShapedForms
+pub mod ShapedHeaders
+pub mod ShapedLists
+pub mod ShapedNames
+pub mod ShapedQuantifiers
+pub mod ShapedTypes
+pub mod Tables

@@ -1,0 +1,12 @@
+pub mod Code
+pub mod Faults
+pub mod FormOf
+pub mod FrameOf
+pub mod Headers
+pub mod HeadersOf
+pub mod Kinds
+pub mod Linears
+pub mod Names
+pub mod Quantifiers
+pub mod ScopeOf
+pub mod TypesOf
