@@ -68,7 +68,7 @@ def in_words(row, name):
     lower = [product(-row[key], name(key)) for key in variables_of(row) if row[key] < 0]
     number = row[None]
     if not upper and not lower:
-        return f"{number} >= 0"
+        return f"{number} >= 0, which never holds"
     if not lower:
         return f"{summed(upper, 0)} >= {-number}"
     if not upper:

@@ -2,7 +2,7 @@
 
 This is a second reading of the rules by which `xanadu goals` makes them, for words alone: it decides nothing. An explanation uses the words of a goal only
 where its number, place and row agree with the program's line."""
-from .forms import BOUND, constant, fits, is_constant, minus, plus, put_in, times, variable, variables_of
+from .forms import constant, fits, is_constant, minus, plus, put_in, times, variable, variables_of
 from .packed import Header, declarations, index_of, pack, text_of, with_index
 from .tokens import line_of
 
@@ -19,10 +19,11 @@ class Variable:
 
 
 class Goal:
-    """A demanded row: what sort of demand it is, in words too, the rows that are known, and the tests on the way that gave none."""
+    """A demanded row: what sort of demand it is, in words too, a test that would give it, the rows that are known, and the tests on the way that gave none."""
 
-    def __init__(self, at, row, sort, says, context, about):
-        self.at, self.row, self.sort, self.says, self.rows, self.weak, self.about = at, row, sort, says, list(context.rows), list(context.weak), about
+    def __init__(self, at, row, sort, says, test, context, about):
+        self.at, self.row, self.sort, self.says, self.test = at, row, sort, says, test
+        self.rows, self.weak, self.about = list(context.rows), list(context.weak), about
 
 
 class Context:
@@ -77,27 +78,27 @@ class Walk:
         self.about.append(Variable(*about))
         return variable(len(self.about) - 1)
 
-    def demand(self, at, row, sort, says):
+    def demand(self, at, row, sort, says, test=""):
         if not fits(row):
             raise Limit
         if not self.context.knows(row):
-            self.goals.append(Goal(at, row, sort, says, self.context, self.about))
+            self.goals.append(Goal(at, row, sort, says, test, self.context, self.about))
 
     def function(self, node):
         self.header = self.headers[node.name]
         self.indices = self.header.indices
-        self.declare(self.header.parameters, [part.name for part in node.parameters], f"of `{node.name}`", "parameter", self.line(node.start))
+        self.declare(self.header.parameters, [part.name for part in node.parameters], "the parameter `{}`")
         self.context = Context([], []).with_rows(row for row, _ in self.header.parameters.rows)
         self.types = {part.name: type for part, type in zip(node.parameters, self.header.parameters.types)}
         self.block(node.body)
 
-    def declare(self, packed, names, where, cause, line):
-        """Makes the variables of a header or a clause: those that are written, then those of bare types."""
-        for name in packed.names:
-            self.fresh(name, f"`{name}` {where}", "written", name, line)
-        for place in packed.bare:
+    def declare(self, packed, names, where):
+        """Makes the variables of a header or a clause: those that are written, then those of bare types. Each is the index of some parameter or variable."""
+        for own in packed.own():
+            place = next(place for place, type in enumerate(packed.types) if index_of(type) == variable(own))
             length = "the length of " if packed.types[place][0] == "array" else ""
-            self.fresh(None, f"{length}`{names[place]}` {where}" if cause == "clause" else f"{length}the parameter `{names[place]}`", cause, names[place], line)
+            name = packed.names[own - packed.first] if own - packed.first < len(packed.names) else None
+            self.fresh(name, length + where.format(names[place]))
 
     # Matches.
 
@@ -222,14 +223,14 @@ class Walk:
         if node.clause:
             named = [part.name for part in node.clause.variables]
             packed, indices = pack(self.source, node.clause.quantifier, [part.type for part in node.clause.variables], len(self.about), self.indices)
-            self.declare(packed, named, f"{where} in line {line}", "clause", line)
+            self.declare(packed, named, "`{}` " + f"{where} in line {line}")
             now.update(zip(named, packed.types))
         changed = changed_by(statements)
         for name, type in types.items():
             if name in changed and name not in named and type[0] in ("int", "array"):
                 length = "the length of " if type[0] == "array" else ""
-                cause = ("loop" if node.kind == "while" else "if") + (" length" if length else "")
-                now[name] = with_index(type, self.fresh(None, f"{length}`{name}` {where} in line {line}", cause, name, line))
+                cause, part = f"{node.kind} {type[0]}", f"{name}: {type[1]}[m]" if length else f"{name}: int(k)"
+                now[name] = with_index(type, self.fresh(None, f"{length}`{name}` {where} in line {line}", cause, part, line))
         return (packed, context.with_rows(row for row, _ in packed.rows) if packed else context, now, node.clause), indices
 
     def edge(self, node, target, context, present, sort, way):
@@ -309,7 +310,7 @@ class Walk:
         if node.mark == "*":
             known = times(left, right[None]) if is_constant(right) else times(right, left[None]) if is_constant(left) else None
             return self.numbered(known, node, "large" if known else "product")
-        self.demand(node.at, minus(right, constant(1)), "divisor", f"the divisor `{self.text(node.right)}` is at least 1")
+        self.demand(node.at, minus(right, constant(1)), "divisor", f"the divisor `{self.text(node.right)}` is at least 1", f"{self.text(node.right)} > 0")
         return self.quotient(node, left, right) if node.mark == "/" else self.remainder(node, right)
 
     def quotient(self, node, left, right):
@@ -334,8 +335,9 @@ class Walk:
 
     def demand_bounds(self, node, array, index):
         index_text, array_text = self.text(node.index), self.text(node.array)
-        self.demand(node.at, index_of(index), "lower", f"the index `{index_text}` is at least 0")
-        self.demand(node.at, minus(index_of(array), index_of(index), 1), "upper", f"the index `{index_text}` is less than the length of `{array_text}`")
+        below, above = f"the index `{index_text}` is at least 0", f"the index `{index_text}` is less than the length of `{array_text}`"
+        self.demand(node.at, index_of(index), "lower", below, f"{index_text} >= 0")
+        self.demand(node.at, minus(index_of(array), index_of(index), 1), "upper", above, f"{index_text} < len({array_text})")
 
     def value_cell(self, node):
         array, index = self.value(node.array), self.value(node.index)
@@ -351,7 +353,7 @@ class Walk:
 
     def value_new(self, node):
         length, fill = self.value(node.length), self.value(node.fill)
-        self.demand(node.at, index_of(length), "length", f"the length `{self.text(node.length)}` is at least 0")
+        self.demand(node.at, index_of(length), "length", f"the length `{self.text(node.length)}` is at least 0", f"{self.text(node.length)} >= 0")
         self.demand_cell(node.at, node.element, fill, node.fill, "cell")
         return "array", node.element, index_of(length)
 

@@ -61,10 +61,12 @@ def column_of(source, at):
 
 
 def shown(source, at, widest=120):
-    """The line of a byte, cut where it is long, and a caret below the byte."""
+    """The line of a byte, cut where it is long, and a caret below the byte; nothing where the line is empty."""
     first = source.rfind(b"\n", 0, at) + 1
     last = source.find(b"\n", at)
     line = source[first:len(source) if last < 0 else last].rstrip(b"\r")
+    if not line:
+        return []
     cut = 0 if len(line) <= widest else max(0, min(at - first - widest // 2, len(line) - widest))
     front, end = (".. " if cut else ""), (" .." if cut + widest < len(line) else "")
     piece = line[cut:cut + widest].decode("utf-8", "replace")

@@ -21,7 +21,7 @@ class Refused(Exception):
 
 class Reader:
     def __init__(self, tokens):
-        self.tokens, self.place, self.wanted = tokens, 0, []
+        self.tokens, self.place, self.wanted, self.index_names = tokens, 0, [], set()
 
     # Single tokens.
 
@@ -123,8 +123,12 @@ class Reader:
     def linear_term(self, sign):
         token = self.take("num", "lower")
         if token.kind == "lower":
-            return sign, token.text
-        return sign * int(token.text), self.take("lower").text if self.taken("*") else None
+            return sign, self.index_name(token)
+        return sign * int(token.text), self.index_name(self.take("lower")) if self.taken("*") else None
+
+    def index_name(self, token):
+        self.index_names.add(token.at)
+        return token.text
 
     def type(self):
         token = self.take("int", "bool", "upper")
@@ -270,7 +274,10 @@ class Reader:
             self.take("(")
         inner = self.expression()
         self.take(")")
-        return self.node("len", token.at, array=inner) if token.text == "len" else inner
+        if token.text == "len":
+            return self.node("len", token.at, array=inner)
+        inner.start, inner.end = token.at, self.tokens[self.place - 1].end
+        return inner
 
     def call(self, token):
         self.take("(")
@@ -290,4 +297,8 @@ class Reader:
 
 
 def tree_of(tokens):
-    return Reader(tokens).program()
+    """The tree of a program; `index_names` has the places at which index variables are named."""
+    reader = Reader(tokens)
+    tree = reader.program()
+    tree.index_names = reader.index_names
+    return tree
