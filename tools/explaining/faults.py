@@ -76,6 +76,8 @@ def parse_hint(before, token, wanted):
         return "equality is `==`"
     if token.text in ("-", "!") and before.text == token.text:
         return f"write `{token.text}({token.text}a)`"
+    if token.kind == "end" and "}" in wanted:
+        return "is a `}` missing?"
     if ";" in wanted:
         return "is a `;` missing in front of it?"
     return "the grammar is in docs/language.md"

@@ -205,7 +205,7 @@ class Walk:
         return True
 
     def do_while(self, node):
-        before, types, outer = self.context, self.types, self.indices
+        before, types = self.context, self.types
         head, self.indices = self.made_anew(node, before, types, node.body)
         self.edge(node, head, before, types, "entry", "where the loop begins,")
         self.context, self.types = head[1].with_rows([]), head[2]
@@ -293,7 +293,7 @@ class Walk:
     def value_truth(self, node):
         return ("bool",)
 
-    def value_name(self, node):
+    def value_variable(self, node):
         return self.types[node.name]
 
     def value_negative(self, node):

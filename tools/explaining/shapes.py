@@ -1,4 +1,5 @@
 """Faults of shape in words."""
+from .kinds import kind_fault
 from .tokens import Token, line_of, tokens_of
 from .tree import Refused, tree_of
 
@@ -51,28 +52,24 @@ def unknown(place):
     return what, f"declare it: `{'type' if sort == 'type' else 'fun'} {place.text()}` .. anywhere in the source"
 
 
-ASKED = {
-    "print": ("`print` asks for a number", "a truth value can be tested: `if (b) { print 1; }`"),
-    "[": ("an index or a length is a number", "compute one"),
-    "new": ("`new` asks for a length and a value for the cells", "as `new int[5](0)`"),
+ADVICE = {
+    ("a truth value", "a number"): "compare, as `x > 0`",
+    ("a number", "a truth value"): "truth values are tested, not computed with",
 }
 
 
 def other_kind(place):
-    token, before, back = place.near(0), place.near(-1), place.near(-2)
-    if token.text == "return":
-        return "this `return` is of the other sort", "a function with the result `unit` has `return;`, any other `return e;`"
-    if before.text in ("(", "&&", "||", "!") and (back.text in ("if", "while") or before.text != "("):
-        return "a test asks for a truth value", "compare, as `x > 0`"
-    if before.text == "(" and back.text == "len":
-        return "`len` asks for an array", "an array has a type such as `int[n]`"
-    if before.text in ASKED:
-        return ASKED[before.text]
-    if place.near(1).text == "[" and token.kind == "lower":
-        return f"`{token.text}` is no array", "only arrays have cells"
-    if token.kind == "lower" and place.near(1).text == "(" and any(node.name == token.text and node.result is None for node in place.tree.functions):
-        return f"`{token.text}` has the result `unit`, so that it gives no value", f"call it as a statement: `{token.text}(..);`"
-    return "what begins here is of another kind than is asked for", "kinds are number, truth value, array of some cells, and each tuple type"
+    found = kind_fault(place.tree, place.at)
+    if not found:
+        return "what begins here is of another kind than is asked for", "kinds are number, truth value, array of some cells, and each tuple type"
+    what = f"{found.who} asks for {found.wanted}, but here is {found.given}"
+    if place.text() == "return":
+        return what, "a function with the result `unit` has `return;`, any other `return e;`"
+    if found.given == "nothing":
+        return what, "a function with the result `unit` gives no value: call it as a statement"
+    if found.wanted == "an array":
+        return what, "only arrays have cells and a length"
+    return what, ADVICE.get((found.wanted, found.given), "kinds are number, truth value, array of some cells, and each tuple type")
 
 
 def wrong_number(place):

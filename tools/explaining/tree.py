@@ -5,10 +5,10 @@ INDEX_RELATIONS = ("<", "<=", ">", ">=", "=")
 
 
 class Node:
-    """A part of a source: its kind, where it starts and ends, where its goals stand (`at`), and its parts by name."""
+    """A part of a source: its kind, where it starts and ends, brackets around it too, where it starts without them (`first`), where its goals stand (`at`), and its parts."""
 
     def __init__(self, kind, start, end, at=None, **parts):
-        self.kind, self.start, self.end, self.at = kind, start, end, start if at is None else at
+        self.kind, self.start, self.first, self.end, self.at = kind, start, start, end, start if at is None else at
         self.__dict__.update(parts)
 
 
@@ -181,11 +181,11 @@ class Reader:
     def assignment(self, token):
         if self.sees("("):
             return self.node("do", token.at, value=self.call(token))
-        cell = Node("name", token.at, token.end, name=token.text)
+        cell = Node("variable", token.at, token.end, name=token.text)
         while mark := self.taken("["):
             cell = self.cell(cell, mark)
         self.take("=")
-        if cell.kind == "name":
+        if cell.kind == "variable":
             return self.node("set", token.at, name=token.text, value=self.expression(), declares=False)
         return self.node("store", token.at, at=cell.at, array=cell.array, index=cell.index, value=self.expression())
 
@@ -264,7 +264,7 @@ class Reader:
         if token.text == "new":
             return self.new(token)
         if token.kind == "lower" and not self.sees("("):
-            return Node("name", token.at, token.end, name=token.text)
+            return Node("variable", token.at, token.end, name=token.text)
         if token.text in ("len", "("):
             return self.bracketed(token)
         return self.call(token)
