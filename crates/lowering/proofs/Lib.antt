@@ -2,6 +2,7 @@ mod LoweredSources
 mod LoweredExamples
 mod LoweredRuns
 mod EachConstruct
+mod EachContext
 pub mod CodeSizes
 pub mod StraightCode
 pub mod CodeTargets

@@ -4,6 +4,7 @@ use Rattle.xanadu_tree.specs.declared.expr.Op.{Op}
 use Rattle.xanadu_tree.specs.declared.expr.Op.TheVariants as arithmetic
 use Rattle.xanadu_tree.specs.declared.expr.Rel.{Rel}
 use Rattle.xanadu_tree.specs.declared.expr.Rel.TheVariants as rel
+use Rattle.typed_core.specs.Operators.{comparison_of}
 use Rattle.three_address.specs.declared.instruction.LowInstr.{LowInstr}
 use Rattle.three_address.specs.declared.instruction.Op22.{Op22}
 use Rattle.three_address.specs.declared.instruction.Op22.TheVariants as op
@@ -49,12 +50,7 @@ array_made type to len fill = instr op.New (to ∷ len ∷ fill ∷ []) (pos typ
 -- ---- comparisons: `a > b` is `b < a`, and `a >= b` is `b <= a`
 
 abbrev pub comparison : Rel → ℤ
-comparison rel.Lt = pos 0
-comparison rel.Le = pos 1
-comparison rel.Gt = pos 0
-comparison rel.Ge = pos 1
-comparison rel.Eq = pos 2
-comparison rel.Ne = pos 3
+comparison r = pos (comparison_of r)
 
 abbrev pub in_order : Rel → (left right : ℕ) → List ℕ
 in_order rel.Lt left right = left ∷ right ∷ []
