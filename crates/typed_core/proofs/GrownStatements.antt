@@ -205,17 +205,17 @@ module _ (P : Type 0) (changed : ℕ → Truth) where
 -- ---- statements and blocks
 
 -- where a branch begins, or a part of a test, is no later than before it
-side_later : (before after : State) (rows : List Linear) → Later before after → Later before (on_side rows after)
+pub side_later : (before after : State) (rows : List Linear) → Later before after → Later before (on_side rows after)
 side_later before after rows l = record { vars = l.vars; naming = l.naming; goals = l.goals; notes = l.notes }
 
 -- behind the second branch, from behind the first
-branch_later : (rows : List Linear) (before one two : State) → Later (other_branch rows before one) two → Later one two
+pub branch_later : (rows : List Linear) (before one two : State) → Later (other_branch rows before one) two → Later one two
 unfolding noting_state
 branch_later rows before one two l =
     record { vars = l.vars; naming = l.naming; goals = l.goals; notes = more_again one.notes (other_branch rows before one).notes two.notes (one_more one.notes _) l.notes }
 
 -- behind a loop
-loop_later : (rows : List Linear) (types : List (ℕ × Ty)) (st back : State) → Later st back → Later st (noting_state rows (resuming rows types back))
+pub loop_later : (rows : List Linear) (types : List (ℕ × Ty)) (st back : State) → Later st back → Later st (noting_state rows (resuming rows types back))
 unfolding noting_state
 loop_later rows types st back l =
     record { vars = l.vars; naming = l.naming; goals = l.goals; notes = more_again st.notes back.notes _ l.notes (one_more back.notes _) }

@@ -32,3 +32,6 @@ pub mod GrownJoins
 pub mod GrownStatements
 pub mod GrowthLaws
 pub mod RowsSoFar
+pub mod SegmentsFound
+pub mod FollowedApplied
+pub mod SeparateStores

@@ -13,6 +13,7 @@ pub mod Statements
 pub mod Goals
 pub mod Growth
 pub mod Reached
+pub mod Segments
 pub mod Proving
 pub mod SourceValues
 pub mod SourceRuns

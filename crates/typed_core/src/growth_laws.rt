@@ -8,7 +8,8 @@ ghost use Rattle.state_types.specs.declared.types.Ty.{Ty};
 ghost use Rattle.typed_core.specs.Growth.{Later, Grown, SidesGrown, NamesSoFar, SidesNamed};
 ghost use Rattle.typed_core.specs.Joins.{changes_any};
 ghost use Rattle.typed_core.specs.Operands.{operand};
-ghost use Rattle.typed_core.specs.Reached.{IsBefore};
+ghost use Rattle.typed_core.specs.Reached.{IsBefore, StandsIn};
+ghost use Rattle.typed_core.specs.Segments.{IsSegment};
 ghost use Rattle.typed_core.specs.States.{Site, State};
 ghost use Rattle.typed_core.specs.Statements.{block};
 ghost use Rattle.typed_core.specs.Tests.{Sides, tested};
@@ -40,4 +41,10 @@ pub fn blocks_grow()
 pub fn rows_name_variables_so_far()
     ensures { (program : core.Program) (fun : ℕ) (reached : core.Stmt) (there : State) → IsBefore program fun reached there
         → All (NamesBelow there.ctx.vars) there.ctx.rows }
+{}
+
+/// A statement that stands in a block is elaborated from the state in front of it, and what it makes is a segment of what the block makes.
+pub fn reached_statements_are_segments()
+    ensures { (site : Site) (ss : core.Stmts) (st end : State) (reached : core.Stmt) (there : State) → StandsIn site ss st reached there
+        → block site ss st ≡ Ok end → IsSegment site reached st there end }
 {}

@@ -1,14 +1,17 @@
-//! What the rules of a core mean for its elaboration, and what holds of its runs, as laws that functions without code carry.
+//! What the rules of a core mean for its elaboration, and that elaboration follows the rules of operations: laws that functions without code
+//! carry.
 
-ghost use Rattle.std.specs.Prelude.{◌≡◌, ◌≢◌, ℕ, ◌<◌, List, [], Ok, Err};
-ghost use Rattle.xan_io.specs.declared.arg.Arg.{Arg};
+ghost use Rattle.std.specs.Prelude.{◌≡◌, ◌≢◌, List, [], Ok, Err};
+ghost use Rattle.index_sorts.specs.Context.{IndexContext};
+ghost use Rattle.operation_rules.specs.Applied.{Ruled, applied};
+ghost use Rattle.operation_rules.specs.declared.rule.Rule.{Rule};
 ghost use Rattle.state_types.specs.declared.closed.Packed.{Packed};
 ghost use Rattle.state_types.specs.declared.closed.Signature.{Signature};
+ghost use Rattle.state_types.specs.declared.types.Ty.{Ty};
+ghost use Rattle.typed_core.specs.Constructs.{followed};
 ghost use Rattle.typed_core.specs.Goals.{elaborated};
 ghost use Rattle.typed_core.specs.Headers.{AreDeclared, table_of, signatures};
 ghost use Rattle.typed_core.specs.Limits.{Misfit, Stray};
-ghost use Rattle.typed_core.specs.Meaning.{source_run};
-ghost use Rattle.typed_core.specs.SourceRuns.{Recorder};
 ghost use Rattle.xanadu_tree.specs.Plain as core;
 ghost use Rattle.xanadu_tree.specs.Shaped.{Shaped};
 
@@ -29,10 +32,10 @@ pub fn shaped_declarations_are_closed()
         → signatures program.funs [] ≡ Ok sigs → AreDeclared table sigs }
 {}
 
-/// Of the run of a core the bound does not matter, where it is greater than the units of fuel: with any two such bounds the run comes to the
-/// same, and its log is the same.
-pub fn more_bound_changes_nothing<L>()
-    ensures { (recorder : Recorder L) (log : L) (bound other : ℕ) (program : core.Program) (args : List Arg) (heap depth fuel : ℕ)
-        → fuel < bound → fuel < other
-        → source_run recorder log bound program args heap depth fuel ≡ source_run recorder log other program args heap depth fuel }
+/// What elaboration follows of a rule is what verification applies, and the reverse.
+pub fn followed_rules_are_applied()
+    ensures applied { (r : Rule) (ctx more : IndexContext) (types : List Ty) → followed r ctx ≡ Ok (types, more)
+        → applied r ctx ≡ Ok (record { demands = r.demands; ctx = more; types = types }) }
+    ensures followed { (r : Rule) (ctx : IndexContext) (ruled : Ruled) → applied r ctx ≡ Ok ruled
+        → (followed r ctx ≡ Ok (ruled.types, ruled.ctx)) × (ruled.demands ≡ r.demands) }
 {}

@@ -12,15 +12,18 @@ mod growth_laws;
 mod laws;
 mod note;
 mod proved;
+mod run_laws;
 
 pub use crate::elaborated::Elaborated;
 pub use crate::goal::GoalAt;
 pub use crate::growth_laws::{
-    blocks_grow, expressions_grow, rows_name_variables_so_far, tests_grow,
+    blocks_grow, expressions_grow, reached_statements_are_segments, rows_name_variables_so_far,
+    tests_grow,
 };
 pub use crate::laws::{
-    more_bound_changes_nothing, shaped_cores_fit, shaped_cores_never_stray,
+    followed_rules_are_applied, shaped_cores_fit, shaped_cores_never_stray,
     shaped_declarations_are_closed,
 };
 pub use crate::note::Note;
 pub use crate::proved::Proved;
+pub use crate::run_laws::{more_bound_changes_nothing, separate_blocks_are_stores};
