@@ -1,0 +1,5 @@
+mod FormValues
+mod WrittenValues
+mod RelationRows
+mod SourceTrees
+mod CoreExamples
