@@ -1,5 +1,5 @@
 #!/usr/bin/env sh
-# Proves and builds both programs into bin/, crate by crate, builds examples/sum.xan with the one, and verifies and runs the text with the other.
+# Proves and builds both programs into bin/, crate by crate; then builds examples/sum.xan with the one, and verifies and runs the text with the other.
 # A crate that has not changed since takes about a second. What the prover says goes to bin/try.log.
 set -eu
 cd "$(dirname "$0")/.."
@@ -50,6 +50,7 @@ show() {
     "$@"
 }
 
+show cat examples/sum.xan
 show bin/xanadu build examples/sum.xan bin/sum.dtal
 show cat bin/sum.dtal
 show bin/dtal verify bin/sum.dtal
