@@ -35,7 +35,7 @@ module _ {L : Type 0} (recorder : Recorder L) where
       (λ p k. result_alike most p.0 p.1 k)
   body_if_alike most b b' false c d fun calls low low' f values st h = err_alike most _
 
-  body_alike : (most b b' : ℕ) (c d : Calls L) (fun : ℕ) → CallsAlike most c d → most < b → most < b' → (f : core.Fun) (values : List Value) (st : Run L)
+  pub body_alike : (most b b' : ℕ) (c d : Calls L) (fun : ℕ) → CallsAlike most c d → most < b → most < b' → (f : core.Fun) (values : List Value) (st : Run L)
       → st.units ≤ most → Alike most (body recorder c fun b f values st) (body recorder d fun b' f values st)
   unfolding body
   body_alike most b b' c d fun calls low low' f values st h = body_if_alike most b b' (length values == length f.params) c d fun calls low low' f values st h
@@ -51,7 +51,7 @@ module _ {L : Type 0} (recorder : Recorder L) (funs : List core.Fun) (depth : �
       paid_alike most st.units st _ _ h (λ m less lower paid l.
       body_alike recorder m b b' c d fun (calls m lower) (omega (arith, lower, low)) (omega (arith, lower, low')) f values paid l)
 
-  called_alike : (b b' live most : ℕ) → most < b → most < b' → CallsAlike most (called recorder funs depth b live) (called recorder funs depth b' live)
+  pub called_alike : (b b' live most : ℕ) → most < b → most < b' → CallsAlike most (called recorder funs depth b live) (called recorder funs depth b' live)
   unfolding called
   called_alike zero b' live most low low' = absurd (omega (arith, low))
   called_alike (suc b) zero live most low low' = absurd (omega (arith, low'))

@@ -15,7 +15,7 @@ module _ {L : Type 0} where
   behind_alike most (Next env) f g st h next = next env
   behind_alike most (Gives v) f g st h next = ok_alike most _ _ h
 
-  two_alike : (most : ℕ) (truth : Bool) (f g f' g' : Run L → Answer L Flow) (st : Run L) → Alike most (f st) (f' st) → Alike most (g st) (g' st)
+  pub two_alike : (most : ℕ) (truth : Bool) (f g f' g' : Run L → Answer L Flow) (st : Run L) → Alike most (f st) (f' st) → Alike most (g st) (g' st)
       → Alike most (one_of_two truth f g st) (one_of_two truth f' g' st)
   two_alike most true f g f' g' st on_true on_false = on_true
   two_alike most false f g f' g' st on_true on_false = on_false

@@ -35,3 +35,4 @@ pub mod RowsSoFar
 pub mod SegmentsFound
 pub mod FollowedApplied
 pub mod SeparateStores
+pub mod FreeBounds

@@ -22,3 +22,4 @@ pub mod SourceTests
 pub mod SourceStatements
 pub mod SourceCalls
 pub mod Meaning
+pub mod SourceFreely

@@ -26,4 +26,6 @@ pub use crate::laws::{
 };
 pub use crate::note::Note;
 pub use crate::proved::Proved;
-pub use crate::run_laws::{more_bound_changes_nothing, separate_blocks_are_stores};
+pub use crate::run_laws::{
+    meaning_needs_no_bound, more_bound_changes_nothing, separate_blocks_are_stores,
+};

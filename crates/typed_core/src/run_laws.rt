@@ -1,11 +1,13 @@
 //! What holds of the runs of cores, and of their stores.
 
-ghost use Rattle.std.specs.Prelude.{◌≡◌, ℕ, ◌<◌, List};
+ghost use Rattle.std.specs.Prelude.{◌≡◌, ℕ, ◌<◌, List, Option};
 ghost use Rattle.operation_rules.specs.Stored.{IsStores};
 ghost use Rattle.typed_core.specs.Meaning.{source_run};
-ghost use Rattle.typed_core.specs.SourceRuns.{Recorder};
-ghost use Rattle.typed_core.specs.SourceValues.{Tag, separate};
+ghost use Rattle.typed_core.specs.SourceFreely.{free_call, free_statement, free_block, freely_called, freely_behind, freely_branched, freely_turned, freely_run};
+ghost use Rattle.typed_core.specs.SourceRuns.{Run, Env, Place, Recorder};
+ghost use Rattle.typed_core.specs.SourceValues.{Tag, Value, separate};
 ghost use Rattle.xan_io.specs.declared.arg.Arg.{Arg};
+ghost use Rattle.xanadu_tree.specs.declared.stmt.Clause.{Clause};
 ghost use Rattle.xanadu_tree.specs.Plain as core;
 
 /// Of the run of a core the bound does not matter, where it is greater than the units of fuel: with any two such bounds the run comes to the
@@ -19,4 +21,23 @@ pub fn more_bound_changes_nothing<L>()
 /// Separate blocks are a kind of store: a written cell changes no header and no other cell, and a block that is made changes nothing else.
 pub fn separate_blocks_are_stores()
     ensures { (tags : ℕ → Tag) → IsStores (separate tags) }
+{}
+
+/// What the parts of a run do needs no bound: a call, a statement with those behind it, branches and the turns of a loop do what their own
+/// parts do, each under one more than the units that are left as its bound; and a whole run does so under any greater bound.
+pub fn meaning_needs_no_bound<L>()
+    ensures calls { (recorder : Recorder L) (funs : List core.Fun) (depth live fun : ℕ) (values : List Value) (st : Run L)
+        → free_call recorder funs depth live fun values st ≡ freely_called recorder funs depth live fun values st }
+    ensures blocks { (recorder : Recorder L) (funs : List core.Fun) (depth live fun : ℕ) (place : Place) (number : ℕ) (s : core.Stmt) (ss : core.Stmts) (env : Env) (st : Run L)
+        → free_block recorder funs depth live fun place number (core.AStmt s ss) env st ≡ freely_behind recorder funs depth live fun place number s ss env st }
+    ensures branches { (recorder : Recorder L) (funs : List core.Fun) (depth live fun : ℕ) (place : Place) (test : core.Test) (on_true on_false : core.Stmts)
+        (join : Option Clause) (at : ℕ) (env : Env) (st : Run L)
+        → free_statement recorder funs depth live fun place (core.If test on_true on_false join at) env st
+        ≡ freely_branched recorder funs depth live fun place test on_true on_false env st }
+    ensures turns { (recorder : Recorder L) (funs : List core.Fun) (depth live fun : ℕ) (place : Place) (test : core.Test) (head : Option Clause) (inner : core.Stmts)
+        (at : ℕ) (env : Env) (st : Run L)
+        → free_statement recorder funs depth live fun place (core.While test head inner at) env st
+        ≡ freely_turned recorder funs depth live fun place test head inner at env st }
+    ensures runs { (recorder : Recorder L) (log : L) (bound : ℕ) (program : core.Program) (args : List Arg) (heap depth fuel : ℕ) → fuel < bound
+        → source_run recorder log bound program args heap depth fuel ≡ freely_run recorder log program args heap depth fuel }
 {}
