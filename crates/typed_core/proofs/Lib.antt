@@ -36,3 +36,4 @@ pub mod SegmentsFound
 pub mod FollowedApplied
 pub mod SeparateStores
 pub mod FreeBounds
+pub mod PrintedMore

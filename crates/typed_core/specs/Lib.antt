@@ -23,3 +23,4 @@ pub mod SourceStatements
 pub mod SourceCalls
 pub mod Meaning
 pub mod SourceFreely
+pub mod Printed

@@ -27,5 +27,6 @@ pub use crate::laws::{
 pub use crate::note::Note;
 pub use crate::proved::Proved;
 pub use crate::run_laws::{
-    meaning_needs_no_bound, more_bound_changes_nothing, separate_blocks_are_stores,
+    meaning_needs_no_bound, more_bound_changes_nothing, output_only_grows,
+    separate_blocks_are_stores,
 };

@@ -3,8 +3,13 @@
 ghost use Rattle.std.specs.Prelude.{◌≡◌, ℕ, ◌<◌, List, Option};
 ghost use Rattle.operation_rules.specs.Stored.{IsStores};
 ghost use Rattle.typed_core.specs.Meaning.{source_run};
+ghost use Rattle.typed_core.specs.Printed.{CallsPrintOn, PrintsOn};
+ghost use Rattle.typed_core.specs.SourceCalls.{called};
 ghost use Rattle.typed_core.specs.SourceFreely.{free_call, free_statement, free_block, freely_called, freely_behind, freely_branched, freely_turned, freely_run};
-ghost use Rattle.typed_core.specs.SourceRuns.{Run, Env, Place, Recorder};
+ghost use Rattle.typed_core.specs.SourceOperands.{value};
+ghost use Rattle.typed_core.specs.SourceRuns.{Calls, Run, Env, Place, Recorder};
+ghost use Rattle.typed_core.specs.SourceStatements.{statement, block};
+ghost use Rattle.typed_core.specs.SourceTests.{holds};
 ghost use Rattle.typed_core.specs.SourceValues.{Tag, Value, separate};
 ghost use Rattle.xan_io.specs.declared.arg.Arg.{Arg};
 ghost use Rattle.xanadu_tree.specs.declared.stmt.Clause.{Clause};
@@ -40,4 +45,16 @@ pub fn meaning_needs_no_bound<L>()
         ≡ freely_turned recorder funs depth live fun place test head inner at env st }
     ensures runs { (recorder : Recorder L) (log : L) (bound : ℕ) (program : core.Program) (args : List Arg) (heap depth fuel : ℕ) → fuel < bound
         → source_run recorder log bound program args heap depth fuel ≡ freely_run recorder log program args heap depth fuel }
+{}
+
+/// Along a run what is printed only becomes more, also where it ends: each part leaves in front what was printed before it.
+pub fn output_only_grows<L>()
+    ensures calls { (recorder : Recorder L) (funs : List core.Fun) (depth bound live fun : ℕ) (values : List Value) (st : Run L)
+        → PrintsOn st (called recorder funs depth bound live fun values st) }
+    ensures values { (call : Calls L) (env : Env) (e : core.Expr) (st : Run L) → CallsPrintOn call → PrintsOn st (value call env e st) }
+    ensures tests { (call : Calls L) (env : Env) (test : core.Test) (st : Run L) → CallsPrintOn call → PrintsOn st (holds call env test st) }
+    ensures statements { (recorder : Recorder L) (call : Calls L) (fun bound : ℕ) (place : Place) (s : core.Stmt) (env : Env) (st : Run L) → CallsPrintOn call
+        → PrintsOn st (statement recorder call fun bound place s env st) }
+    ensures blocks { (recorder : Recorder L) (call : Calls L) (fun bound : ℕ) (place : Place) (number : ℕ) (ss : core.Stmts) (env : Env) (st : Run L) → CallsPrintOn call
+        → PrintsOn st (block recorder call fun bound place number ss env st) }
 {}
