@@ -49,6 +49,16 @@ class Context:
         return Context(list(self.rows), self.weak + [test])
 
 
+class State:
+    """What a join or a loop's head begins with; `packed` is its clause, where it has one."""
+
+    def __init__(self, node, context, types, indices):
+        self.node, self.context, self.types, self.indices, self.packed = node, context, dict(types), indices, None
+
+    def named(self):
+        return {part.name for part in self.node.clause.variables} if self.node.clause else set()
+
+
 def changed_by(statements):
     """The variables that statements assign, or that a clause within them names."""
     found = set()
@@ -198,47 +208,52 @@ class Walk:
         if not ends or node.clause is None and len(ends) == 1:
             self.context, self.types = ends[0][:2] if ends else (before, types)
             return bool(ends)
-        joined, indices = self.made_anew(node, before, types, node.on_true + node.on_false)
+        joined = self.made_anew(node, before, types, node.on_true + node.on_false)
         for context, present, way in ends:
-            self.edge(node, joined, context, present, "join", f"on the way into the `join`, {way},")
-        self.context, self.types, self.indices = joined[1], joined[2], indices
+            self.edge(joined, context, present, "join", f"on the way into the `join`, {way},")
+        self.context, self.types, self.indices = joined.context, joined.types, joined.indices
         return True
 
     def do_while(self, node):
-        before, types = self.context, self.types
-        head, self.indices = self.made_anew(node, before, types, node.body)
-        self.edge(node, head, before, types, "entry", "where the loop begins,")
-        self.context, self.types = head[1].with_rows([]), head[2]
+        head = self.made_anew(node, self.context, self.types, node.body)
+        self.edge(head, self.context, self.types, "entry", "where the loop begins,")
+        self.context, self.types, self.indices = head.context.with_rows([]), head.types, head.indices
         inside, behind = self.sides(node.test)
         self.context = inside
         if self.block(node.body):
-            self.edge(node, head, self.context, self.types, "back", "at the end of the loop's body,")
-        self.context, self.types = behind, head[2]
+            self.edge(head, self.context, self.types, "back", "at the end of the loop's body,")
+        self.context, self.types = behind, head.types
         return True
 
     def made_anew(self, node, before, types, statements):
-        """The state of a join or a loop's head, as its clause packed (or None), its context and its types; and the index names."""
+        """The state of a join or a loop's head: the clause's variables, and one for each other variable that the statements change."""
         where, line = ("at the head of the loop" if node.kind == "while" else "behind the `if`"), self.line(node.start)
-        context, now, indices, packed, named = before.with_rows([]), dict(types), self.indices, None, []
+        state = State(node, before.with_rows([]), types, self.indices)
         if node.clause:
-            named = [part.name for part in node.clause.variables]
-            packed, indices = pack(self.source, node.clause.quantifier, [part.type for part in node.clause.variables], len(self.about), self.indices)
-            self.declare(packed, named, "`{}` " + f"{where} in line {line}")
-            now.update(zip(named, packed.types))
-        changed = changed_by(statements)
-        for name, type in types.items():
-            if name in changed and name not in named and type[0] in ("int", "array"):
-                length = "the length of " if type[0] == "array" else ""
-                cause, part = f"{node.kind} {type[0]}", f"{name}: {type[1]}[m]" if length else f"{name}: int(k)"
-                now[name] = with_index(type, self.fresh(None, f"{length}`{name}` {where} in line {line}", cause, part, line))
-        return (packed, context.with_rows(row for row, _ in packed.rows) if packed else context, now, node.clause), indices
+            parts = node.clause.variables
+            state.packed, state.indices = pack(self.source, node.clause.quantifier, [part.type for part in parts], len(self.about), self.indices)
+            self.declare(state.packed, [part.name for part in parts], "`{}` " + f"{where} in line {line}")
+            state.types.update(zip([part.name for part in parts], state.packed.types))
+            state.context = before.with_rows(row for row, _ in state.packed.rows)
+        changed = changed_by(statements) - state.named()
+        for name in types:
+            if name in changed:
+                self.forget(state, name, where, line)
+        return state
 
-    def edge(self, node, target, context, present, sort, way):
-        packed, _, _, clause = target
-        if packed:
-            self.context = context
-            parts = [(f"{way} {'the length of ' if type[0] == 'array' else ''}`{part.name}`", f"`{self.text(part)}`") for part, type in zip(clause.variables, packed.types)]
-            self.demand_match(node.at, packed, [present[part.name] for part in clause.variables], sort, f"{way} the clause", parts)
+    def forget(self, state, name, where, line):
+        """Gives a variable that no clause names a new index, of which nothing is known."""
+        type = state.types[name]
+        if type[0] in ("int", "array"):
+            length, part = ("the length of ", f"{name}: {type[1]}[m]") if type[0] == "array" else ("", f"{name}: int(k)")
+            state.types[name] = with_index(type, self.fresh(None, f"{length}`{name}` {where} in line {line}", f"{state.node.kind} {type[0]}", part, line))
+
+    def edge(self, target, context, present, sort, way):
+        clause, self.context = target.node.clause, context
+        if clause:
+            lengths = ["the length of " if type[0] == "array" else "" for type in target.packed.types]
+            parts = [(f"{way} {length}`{part.name}`", f"`{self.text(part)}`") for length, part in zip(lengths, clause.variables)]
+            self.demand_match(target.node.at, target.packed, [present[part.name] for part in clause.variables], sort, f"{way} the clause", parts)
 
     # Tests: what is known where they hold and where they fail.
 
@@ -252,17 +267,21 @@ class Walk:
     def sides_not(self, node):
         return tuple(reversed(self.sides(node.part)))
 
-    def sides_all(self, node, any=False):
+    def sides_all(self, node):
+        return self.sides_of_parts(node, "and")
+
+    def sides_any(self, node):
+        return tuple(reversed(self.sides_of_parts(node, "or")))
+
+    def sides_of_parts(self, node, word):
+        """What is known where every part is as the word asks, and where some part is not, which is nothing new."""
         before, outer, self.compared = self.context.with_rows([]), self.compared, set()
         for part in node.parts:
             true, false = self.sides(part)
-            self.context = false if any else true
-        unknown = before.weaker("or" if any else "and", self.text(node), self.line(node.start), self.compared)
+            self.context = true if word == "and" else false
+        unknown = before.weaker(word, self.text(node), self.line(node.start), self.compared)
         self.compared = outer | self.compared
-        return (unknown, self.context) if any else (self.context, unknown)
-
-    def sides_any(self, node):
-        return self.sides_all(node, any=True)
+        return self.context, unknown
 
     def sides_compare(self, node):
         left, right = (index_of(self.value(side)) for side in (node.left, node.right))
