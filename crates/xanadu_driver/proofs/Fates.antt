@@ -19,7 +19,8 @@ use Rattle.type_shapes.specs.Faults.{Fault}
 use Rattle.scope_shapes.specs.Shape.{shape}
 use Rattle.xanadu_driver.specs.declared.refusal.Refusal.{Refusal}
 use Rattle.xanadu_driver.specs.declared.refusal.Refusal.TheVariants as refusal
-use Rattle.xanadu_driver.specs.Source.{source_most, HasTokens, HasTree, IsCore, IsBytesFault, IsNestedSource, IsParseFault, IsShapeFault, IsRefused}
+use Rattle.xanadu_driver.specs.declared.refusal.TheConstants.{SOURCE_MOST}
+use Rattle.xanadu_driver.specs.Source.{HasTokens, HasTree, IsCore, IsBytesFault, IsNestedSource, IsParseFault, IsShapeFault, IsRefused}
 
 -- ---- trees
 
@@ -132,7 +133,7 @@ module _ (bytes : List ℕ) where
   no_written at written x y =
       x.fault.no_tree written (subst (λ (l : List Token). Parses l (length bytes) written) (one_tokens bytes y.tokens x.tokens y.has x.has) y.parses)
 
-  too_long : source_most < length bytes → length bytes ≤ source_most → ⊥
+  too_long : SOURCE_MOST < length bytes → length bytes ≤ SOURCE_MOST → ⊥
   too_long x y = absurd (omega (arith, x, y))
 
   not_nested : IsNestedSource bytes → (tokens : List Token) → HasTokens bytes tokens → (IsTooNested (kinds_of tokens) → ⊥) → ⊥

@@ -1,8 +1,11 @@
+pub mod CauseLaws
 pub mod Emission
+pub mod FateLaws
+pub mod LinePieces
+pub mod ParsedAnswers
 pub mod Fates
 pub mod Ranges
 pub mod Simulation
 pub mod SmallCores
-pub mod Statuses
 pub mod Stretches
 pub mod Whole

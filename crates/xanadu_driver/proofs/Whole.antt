@@ -2,7 +2,11 @@
 use Rattle.std.proofs.Common.{◌≡◌, ℕ, zero, suc, ◌≤◌, ℤ, ◌+ℤ◌, ◌-ℤ◌, Bool, true, false, cond, List, length, Option, Some, None, refl, sym, ap, ◌∙◌, subst}
 use Rattle.xan_io.specs.declared.arg.Arg.{Arg}
 use Rattle.xan_io.specs.Agreement.{Agree}
-use Rattle.xan_io.specs.Contents.{replaced}
+use Rattle.std.specs.Prelude.{Vec}
+use Rattle.std.specs.declared.alloc.Global.{Global}
+use Rattle.xan_io.specs.declared.files.FileRead.{FileRead}
+use Rattle.xan_io.specs.declared.files.FileRead.TheVariants.{Whole}
+use Rattle.xan_io.specs.Contents.{ReadsAs, replaced}
 use Rattle.xan_io.specs.Entry.{EntryFault, unless_faulty}
 use Rattle.xan_io.specs.Outcome.{Outcome}
 use Rattle.dtal_code.specs.declared.straight.Straight.{Straight}
@@ -124,10 +128,8 @@ translates source text core program instructions has s lowers spells one counted
     let whole = number_program s.count s.value s.return_at s.at in
     let agree = small_agrees s.count s.value s.return_at s.at s.few s.sum in
     record {
-      core = core;
       program = program;
-      has = has;
-      small = s;
+      code = record { core = core; has = has; small = s; lowered = is };
       spelled = spells;
       only = λ other h. one text other program h spells;
       counted = counted;
@@ -147,3 +149,7 @@ or_bytes d (Some bytes) = bytes
 pub whole_is : (content : Option (List ℕ)) (told bytes : List ℕ) → content ≡ Some told → content ≡ replaced content bytes → told ≡ bytes
 unfolding or_bytes
 whole_is content told bytes here whole = ap (or_bytes told) (sym here ∙ whole ∙ ap (λ c. replaced c bytes) here)
+
+pub whole_read : (content : Option (List ℕ)) (most : ℕ) (read : FileRead) (bytes : Vec ℕ Global) → read ≡ Whole bytes → ReadsAs content most read
+    → content ≡ replaced content bytes.items
+whole_read content most read bytes is reads = let r = subst (ReadsAs content most) is reads in r.1

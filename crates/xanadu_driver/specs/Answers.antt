@@ -56,3 +56,11 @@ line_of ReadFailed = codes "read: failed\n"
 line_of WriteFailed = codes "write: failed\n"
 line_of Memory = codes "memory\n"
 line_of (Refused refusal) = refusal_line refusal
+
+-- ---- what is left
+
+-- no name changes at this answer
+abbrev pub Keeps : Answer → Type 0
+Keeps (Built _) = ⊥
+Keeps WriteFailed = ⊥
+Keeps _ = Unit {0}

@@ -8,10 +8,8 @@ use Rattle.xan_io.specs.Outcome.{How, Returned, NoStore, Overflow, Outcome}
 use Rattle.dtal_code.specs.declared.straight.Straight.{Straight}
 use Rattle.dtal_code.specs.Entry.{straight_run}
 use Rattle.dtal_code.specs.Text.{Spells}
-use Rattle.xanadu_tree.specs.Plain as plain
-use Rattle.xanadu_tree.specs.Small.{IsSmall}
 use Rattle.xanadu_driver.specs.Meaning.{source_run}
-use Rattle.xanadu_driver.specs.Source.{IsCore}
+use Rattle.xanadu_driver.specs.Source.{HasCode}
 
 -- a run over so many activations has ended: with a number or an overflow, and without store where there may be no activation
 abbrev pub HasEnded : (depth : ℕ) → How → Type 0
@@ -25,18 +23,16 @@ abbrev pub RunEnds : (depth : ℕ) → Result (ℕ → Outcome) EntryFault → �
 RunEnds depth (Ok run) units = HasEnded depth (run units).how
 RunEnds depth (Err fault) units = Unit {0}
 
--- The source has a core, which is small, and the text spells exactly one straight program, of so many instructions; the two agree for all
--- arguments, all sizes of the store and all depths, and both end.
+-- The source has a small core, and the text spells exactly its code, of so many instructions; core and code agree for all arguments, all
+-- sizes of the store and all depths, and both end.
 pub record Translates (source text : List ℕ) (instructions : ℕ) : Type 0 where
-  pub core : plain.Program
   pub program : Straight
-  pub has : IsCore source core
-  pub small : IsSmall core
+  pub code : HasCode source program
   pub spelled : Spells text program
   pub only : (other : Straight) → Spells text other → other ≡ program
   pub counted : instructions ≡ length program.code
-  pub agree : Agree (source_run core) (straight_run program)
-  pub source_ends : (args : List Arg) (heap depth : ℕ) → IsRun args heap depth → (fuel : ℕ) → RunEnds depth (source_run core args heap depth) fuel
+  pub agree : Agree (source_run code.core) (straight_run program)
+  pub source_ends : (args : List Arg) (heap depth : ℕ) → IsRun args heap depth → (fuel : ℕ) → RunEnds depth (source_run code.core args heap depth) fuel
   pub machine_ends : (args : List Arg) (heap depth : ℕ) → IsRun args heap depth → (steps : ℕ) × RunEnds depth (straight_run program args heap depth) steps
 
 -- the name holds the text of the source

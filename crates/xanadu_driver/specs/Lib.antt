@@ -1,8 +1,12 @@
 pub mod Answers
+pub mod Causes
 pub mod Correct
+pub mod Fate
 pub mod Forms
 pub mod Lowering
 pub mod Meaning
+pub mod Outside
 pub mod Report
 pub mod Source
+pub mod Stops
 pub mod Words

@@ -1,4 +1,4 @@
--- What becomes of the bytes of a source: it is refused for one thing, or it has a core that is small.
+-- How far the bytes of a source come: they are refused for one thing, or have a core that is small, and its code.
 --
 -- A source is looked at in this order: its length, its tokens, how deep its brackets nest, its tree, its shape, its form.
 use Rattle.std.specs.Prelude.{◌≡◌, ℕ, ◌≤◌, ◌<◌, List, length, Result, Ok, Err}
@@ -16,20 +16,19 @@ use Rattle.xanadu_tree.specs.Written.{Parses}
 use Rattle.type_shapes.specs.declared.error.ShapeKind.{ShapeKind}
 use Rattle.type_shapes.specs.Faults.{Fault}
 use Rattle.scope_shapes.specs.Shape.{shape}
+use Rattle.dtal_code.specs.declared.straight.Straight.{Straight}
+use Rattle.xanadu_driver.specs.Lowering.{straight_of}
 use Rattle.xanadu_driver.specs.declared.refusal.Refusal.{Refusal}
 use Rattle.xanadu_driver.specs.declared.refusal.Refusal.TheVariants as refusal
-use Rattle.xanadu_driver.specs.declared.source.SourceError.{SourceError}
-use Rattle.xanadu_driver.specs.declared.source.SourceError.TheVariants as error
-
--- the greatest length of a source in bytes
-abbrev pub source_most : ℕ
-source_most = 1048576
+use Rattle.xanadu_driver.specs.declared.refusal.TheConstants.{SOURCE_MOST}
+use Rattle.xanadu_driver.specs.declared.refusal.SourceError.{SourceError}
+use Rattle.xanadu_driver.specs.declared.refusal.SourceError.TheVariants as error
 
 -- ---- how far a source comes
 
 -- it is short enough, and has these tokens
 pub record HasTokens (bytes : List ℕ) (tokens : List Token) : Type 0 where
-  pub short : length bytes ≤ source_most
+  pub short : length bytes ≤ SOURCE_MOST
   pub lexed : lexed bytes ≡ Ok tokens
 
 -- its brackets do not nest too deep, and its tokens spell this tree
@@ -45,11 +44,18 @@ pub record IsCore (bytes : List ℕ) (core : plain.Program) : Type 0 where
   pub has : HasTree bytes written
   pub shaped : shape written (length bytes) ≡ Ok core
 
+-- its core is small, and this is its code
+pub record HasCode (bytes : List ℕ) (program : Straight) : Type 0 where
+  pub core : plain.Program
+  pub has : IsCore bytes core
+  pub small : IsSmall core
+  pub lowered : program ≡ straight_of small.count small.value
+
 -- ---- why it comes no further
 
 -- this is the place of the first byte at which no token begins, or where digits begin that are no number
 pub record IsBytesFault (bytes : List ℕ) (at : ℕ) : Type 0 where
-  pub short : length bytes ≤ source_most
+  pub short : length bytes ≤ SOURCE_MOST
   pub kind : LexKind
   pub fault : lexed bytes ≡ Err (lex_error.Fault at kind)
 
@@ -80,7 +86,7 @@ pub record IsOfOtherForm (bytes : List ℕ) : Type 0 where
 
 -- The source is refused for this. It is refused for one thing at most, and then it has no small core.
 abbrev pub IsRefused : List ℕ → Refusal → Type 0
-IsRefused bytes refusal.Length = source_most < length bytes
+IsRefused bytes refusal.Length = SOURCE_MOST < length bytes
 IsRefused bytes (refusal.Bytes at) = IsBytesFault bytes at
 IsRefused bytes refusal.Nesting = IsNestedSource bytes
 IsRefused bytes (refusal.Parse at) = IsParseFault bytes at
@@ -91,3 +97,9 @@ IsRefused bytes refusal.NotBuilt = IsOfOtherForm bytes
 abbrev pub Stops : List ℕ → SourceError → Type 0
 Stops bytes (error.Refused refusal) = IsRefused bytes refusal
 Stops bytes error.Memory = Unit {0}
+
+-- What becomes of a source where memory suffices: the code of its small core, or what it is refused for.
+abbrev pub HasFate : List ℕ → Result Straight SourceError → Type 0
+HasFate bytes (Ok program) = HasCode bytes program
+HasFate bytes (Err (error.Refused refusal)) = IsRefused bytes refusal
+HasFate bytes (Err error.Memory) = ⊥

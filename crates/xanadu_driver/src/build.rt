@@ -4,18 +4,15 @@ ghost use Rattle.std.specs.Prelude.{◌≡◌, ◌≢◌, ◌≤◌, ℕ, List, 
 ghost use Rattle.xan_io.specs.Faults.{Rose};
 ghost use Rattle.xanadu_driver.specs.declared.refusal.Refusal.{Refusal};
 ghost use Rattle.xanadu_driver.specs.Correct.{Wrote, Cut};
-ghost use Rattle.xanadu_driver.specs.Report.{Keeps};
+ghost use Rattle.xanadu_driver.specs.Answers.{Keeps};
+ghost use Rattle.xanadu_driver.specs.declared.refusal.TheConstants.{SOURCE_MOST};
 ghost use Rattle.xanadu_driver.specs.Source.{IsRefused};
 
 use crate::answer::Answer;
-use crate::refusal::Refusal;
-use crate::source::SourceError;
-use crate::translate::translate;
+use crate::refusal::{Refusal, SOURCE_MOST, SourceError};
+use crate::translate::compile;
 use std::alloc::Global;
 use xan_io::{FileFault, FileRead, Files};
-
-/// The greatest length of a source in bytes.
-const SOURCE_MOST: u64 = 1048576;
 
 /// Reads the source, and writes its text under the other name.
 pub fn build<F: Files>(alloc: Global, files: &mut F, source: &str, target: &str) -> Answer
@@ -38,7 +35,7 @@ pub fn build<F: Files>(alloc: Global, files: &mut F, source: &str, target: &str)
 
 /// Writes the text of the source.
 fn build_bytes<F: Files>(alloc: Global, files: &mut F, source: &[u8], target: &str) -> Answer
-    requires { length source.now ≤ 1048576 }
+    requires { length source.now ≤ SOURCE_MOST }
     ensures command { result ≢ Answer.NoCommand }
     ensures read { result ≢ Answer.ReadFailed }
     ensures others { (name : List ℕ) → name ≢ target.now → F.content files.new name ≡ F.content files.old name }
@@ -48,7 +45,7 @@ fn build_bytes<F: Files>(alloc: Global, files: &mut F, source: &[u8], target: &s
     ensures cut { result ≡ Answer.WriteFailed → Cut source.now (F.content files.old target.now) (F.content files.new target.now) }
     ensures built { (instructions : ℕ) → result ≡ Answer.Built instructions → Wrote source.now instructions (F.content files.old target.now) (F.content files.new target.now) }
 {
-    match translate(alloc, source) {
+    match compile(alloc, source) {
         Ok(text) => match files.write(alloc, target, text.bytes.as_slice()) {
             Ok(()) => Answer::Built(text.instructions),
             Err(FileFault::Failed) => Answer::WriteFailed,

@@ -7,15 +7,14 @@
 
 mod answer;
 mod build;
+mod laws;
 mod lines;
 mod lower;
 mod refusal;
 mod small;
-mod source;
-#[cfg(test)]
-mod tests;
 mod top;
 mod translate;
 mod words;
 
+pub use laws::sources_have_one_fate;
 pub use top::xanadu_top;

@@ -1,119 +1,123 @@
-//! The lines of the answers, put without memory. After a fault a prefix of the line is put.
+//! The lines of the answers, each put as one piece, without memory. After a fault a prefix of the line is put.
 
-ghost use Rattle.std.specs.Prelude.{◌≡◌, ◌≤◌, OnOk, OnErr, ◌++◌};
+ghost use Rattle.std.specs.Prelude.{◌≡◌, ◌≤◌, ◌+◌, ◌++◌, length, OnOk, OnErr};
 ghost use Rattle.std.specs.Io.KnownBytes.{append_known};
 ghost use Rattle.xan_io.specs.Faults.{Rose};
 ghost use Rattle.xan_io.specs.Written.{AppendsPrefix};
-ghost use Rattle.xanadu_driver.specs.Answers.{line_of, refusal_line, numbered};
+ghost use Rattle.xanadu_driver.specs.Answers as spec;
+ghost use Rattle.xanadu_driver.specs.Answers.{numbered};
 
 use crate::answer::Answer;
 use crate::refusal::Refusal;
+use arrayvec::ArrayString;
 use itoa::Buffer;
 use xan_io::{Sink, SinkFault};
 
+/// A line. The longest is two words, each with a number, and a third word.
+type Line = ArrayString<170>;
+
 /// Puts the line of the answer.
 pub fn put_line<O: Sink>(out: &mut O, answer: Answer) -> Result<(), SinkFault>
-    ensures appended { OnOk result (O.written out.new ≡ append_known (O.written out.old) (line_of answer)) }
+    ensures appended { OnOk result (O.written out.new ≡ append_known (O.written out.old) (spec.line_of answer)) }
     ensures counted { OnOk result (O.faults out.new ≡ O.faults out.old) }
-    ensures prefix { OnErr result (AppendsPrefix (O.written out.old) (O.written out.new) (line_of answer)) }
+    ensures prefix { OnErr result (AppendsPrefix (O.written out.old) (O.written out.new) (spec.line_of answer)) }
     ensures failed { OnErr result (Rose (O.faults out.old) (O.faults out.new)) }
     ensures never_falls { O.faults out.old ≤ O.faults out.new }
+{
+    let line = line_of(answer);
+    out.put(line.as_bytes())
+}
+
+/// The line of an answer.
+fn line_of(answer: Answer) -> Line
+    ensures { result.bytes ≡ spec.line_of answer }
 {
     match answer {
-        Answer::Built(instructions) => put_between(
-            out,
-            b"built: 1 functions, 0 goals, ",
+        Answer::Built(instructions) => line_of_number(
+            "built: 1 functions, 0 goals, ",
             instructions,
-            b" instructions\n",
+            " instructions\n",
         ),
-        Answer::NoCommand => out.put(b"words: not a command\n"),
-        Answer::ReadFailed => out.put(b"read: failed\n"),
-        Answer::WriteFailed => out.put(b"write: failed\n"),
-        Answer::Memory => out.put(b"memory\n"),
-        Answer::Refused(refusal) => put_refusal(out, refusal),
+        Answer::NoCommand => line_of_word("words: not a command\n"),
+        Answer::ReadFailed => line_of_word("read: failed\n"),
+        Answer::WriteFailed => line_of_word("write: failed\n"),
+        Answer::Memory => line_of_word("memory\n"),
+        Answer::Refused(refusal) => line_of_refusal(refusal),
     }
 }
 
-/// Puts the line of a refusal.
-fn put_refusal<O: Sink>(out: &mut O, refusal: Refusal) -> Result<(), SinkFault>
-    ensures appended { OnOk result (O.written out.new ≡ append_known (O.written out.old) (refusal_line refusal)) }
-    ensures counted { OnOk result (O.faults out.new ≡ O.faults out.old) }
-    ensures prefix { OnErr result (AppendsPrefix (O.written out.old) (O.written out.new) (refusal_line refusal)) }
-    ensures failed { OnErr result (Rose (O.faults out.old) (O.faults out.new)) }
-    ensures never_falls { O.faults out.old ≤ O.faults out.new }
+/// The line of a refusal.
+fn line_of_refusal(refusal: Refusal) -> Line
+    ensures { result.bytes ≡ spec.refusal_line refusal }
 {
     match refusal {
-        Refusal::Length => out.put(b"limit: length 1048576\n"),
-        Refusal::Nesting => out.put(b"limit: nesting 64\n"),
-        Refusal::Bytes(at) => put_between(out, b"bytes: at ", at, b"\n"),
-        Refusal::Parse(at) => put_between(out, b"parse: at ", at, b"\n"),
-        Refusal::Shape(kind, at) => put_place_of_number(
-            out,
-            b"shape ",
-            u32::from(kind.number()),
-            b": at ",
-            at,
-            b"\n",
-        ),
-        Refusal::NotBuilt => out.put(b"not built yet\n"),
+        Refusal::Length => line_of_word("limit: length 1048576\n"),
+        Refusal::Nesting => line_of_word("limit: nesting 64\n"),
+        Refusal::Bytes(at) => line_of_number("bytes: at ", at, "\n"),
+        Refusal::Parse(at) => line_of_number("parse: at ", at, "\n"),
+        Refusal::Shape(kind, at) => {
+            line_of_numbers("shape ", u32::from(kind.number()), ": at ", at, "\n")
+        }
+        Refusal::NotBuilt => line_of_word("not built yet\n"),
     }
 }
 
-/// Puts a word and a number, another word and its number, and a last word.
-#[tactic(auto, using(xan_io::proofs::Puts::puts))]
-fn put_place_of_number<O: Sink>(
-    out: &mut O,
-    word: &[u8],
-    number: u32,
-    middle: &[u8],
-    at: u32,
-    more: &[u8],
-) -> Result<(), SinkFault>
-    ensures appended { OnOk result (O.written out.new ≡ append_known (O.written out.old) (numbered word.now number ++ (numbered middle.now at ++ more.now))) }
-    ensures counted { OnOk result (O.faults out.new ≡ O.faults out.old) }
-    ensures prefix { OnErr result (AppendsPrefix (O.written out.old) (O.written out.new) (numbered word.now number ++ (numbered middle.now at ++ more.now))) }
-    ensures failed { OnErr result (Rose (O.faults out.old) (O.faults out.new)) }
-    ensures never_falls { O.faults out.old ≤ O.faults out.new }
+/// A line that is always the same.
+fn line_of_word(word: &str) -> Line
+    requires { length word.now ≤ 30 }
+    ensures { result.bytes ≡ word.now }
 {
-    put_numbered(out, word, number)?;
-    put_between(out, middle, at, more)
+    let mut line = ArrayString::new();
+    line.push_str(word);
+    line
 }
 
-/// Puts a word, a number and another word.
-#[tactic(auto, using(xan_io::proofs::Puts::puts))]
-fn put_between<O: Sink>(out: &mut O, word: &[u8], number: u32, more: &[u8]) -> Result<(), SinkFault>
-    ensures appended { OnOk result (O.written out.new ≡ append_known (O.written out.old) (numbered word.now number ++ more.now)) }
-    ensures counted { OnOk result (O.faults out.new ≡ O.faults out.old) }
-    ensures prefix { OnErr result (AppendsPrefix (O.written out.old) (O.written out.new) (numbered word.now number ++ more.now)) }
-    ensures failed { OnErr result (Rose (O.faults out.old) (O.faults out.new)) }
-    ensures never_falls { O.faults out.old ≤ O.faults out.new }
+/// A word, a number and another word.
+fn line_of_number(word: &str, number: u32, more: &str) -> Line
+    requires word { length word.now ≤ 30 }
+    requires more { length more.now ≤ 30 }
+    ensures { result.bytes ≡ numbered word.now number ++ more.now }
 {
-    put_numbered(out, word, number)?;
-    out.put(more)
+    let mut line = ArrayString::new();
+    push_numbered(&mut line, word, number);
+    line.push_str(more);
+    line
 }
 
-/// Puts a word and a number behind it.
-fn put_numbered<O: Sink>(out: &mut O, word: &[u8], number: u32) -> Result<(), SinkFault>
-    ensures appended { OnOk result (O.written out.new ≡ append_known (O.written out.old) (numbered word.now number)) }
-    ensures counted { OnOk result (O.faults out.new ≡ O.faults out.old) }
-    ensures prefix { OnErr result (AppendsPrefix (O.written out.old) (O.written out.new) (numbered word.now number)) }
-    ensures failed { OnErr result (Rose (O.faults out.old) (O.faults out.new)) }
-    ensures never_falls { O.faults out.old ≤ O.faults out.new }
+/// A word and a number, another word and its number, and a last word.
+fn line_of_numbers(word: &str, number: u32, middle: &str, at: u32, more: &str) -> Line
+    requires word { length word.now ≤ 30 }
+    requires middle { length middle.now ≤ 30 }
+    requires more { length more.now ≤ 30 }
+    ensures { result.bytes ≡ numbered word.now number ++ (numbered middle.now at ++ more.now) }
+{
+    let mut line = ArrayString::new();
+    push_numbered(&mut line, word, number);
+    push_between(&mut line, middle, at, more);
+    line
+}
+
+/// Adds a word, a number and another word.
+#[tactic(auto, using(crate::proofs::LinePieces::pieces))]
+fn push_between(line: &mut Line, word: &str, number: u32, more: &str)
+    requires line { length line.old.bytes ≤ 70 }
+    requires word { length word.now ≤ 30 }
+    requires more { length more.now ≤ 30 }
+    ensures { line.new.bytes ≡ line.old.bytes ++ (numbered word.now number ++ more.now) }
+{
+    push_numbered(line, word, number);
+    line.push_str(more);
+}
+
+/// Adds a word and a number behind it.
+#[tactic(auto, using(crate::proofs::LinePieces::pieces))]
+fn push_numbered(line: &mut Line, word: &str, number: u32)
+    requires line { length line.old.bytes ≤ 70 }
+    requires word { length word.now ≤ 30 }
+    ensures bytes { line.new.bytes ≡ line.old.bytes ++ numbered word.now number }
+    ensures short { length line.new.bytes ≤ length line.old.bytes + 70 }
 {
     let mut buffer = Buffer::new();
-    let digits = buffer.format(number).as_bytes();
-    put_two(out, word, digits)
-}
-
-/// Puts two pieces as one.
-#[tactic(auto, using(xan_io::proofs::Puts::puts))]
-fn put_two<O: Sink>(out: &mut O, first: &[u8], second: &[u8]) -> Result<(), SinkFault>
-    ensures appended { OnOk result (O.written out.new ≡ append_known (O.written out.old) (first.now ++ second.now)) }
-    ensures counted { OnOk result (O.faults out.new ≡ O.faults out.old) }
-    ensures prefix { OnErr result (AppendsPrefix (O.written out.old) (O.written out.new) (first.now ++ second.now)) }
-    ensures failed { OnErr result (Rose (O.faults out.old) (O.faults out.new)) }
-    ensures never_falls { O.faults out.old ≤ O.faults out.new }
-{
-    out.put(first)?;
-    out.put(second)
+    line.push_str(word);
+    line.push_str(buffer.format(number));
 }

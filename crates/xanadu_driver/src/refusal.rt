@@ -1,9 +1,17 @@
-//! What a source can be refused for.
+//! What a source can be refused for, and what each pass stops with.
 
 ghost use Rattle.std.specs.Prelude.{◌≡◌};
 ghost use Rattle.xanadu_driver.specs.Answers.{refusal_status};
+ghost use Rattle.xanadu_driver.specs.Stops.{of_lexer, of_parser, of_shapes};
+ghost use Rattle.xanadu_driver.specs.declared.refusal.SourceError.TheVariants.{Memory as memory};
 
-use type_shapes::ShapeKind;
+use type_shapes::{ShapeError, ShapeKind};
+use xan_io::Memory;
+use xanadu_lexer::LexError;
+use xanadu_parser::ParseError;
+
+/// The greatest length of a source in bytes.
+pub const SOURCE_MOST: u64 = 1_048_576;
 
 /// Why a source is not built, in the order in which it is looked for. Places are offsets in bytes.
 #[derive(Clone, Copy)]
@@ -34,5 +42,56 @@ impl Refusal {
             Refusal::Shape(_, _) => 9,
             Refusal::NotBuilt => 20,
         }
+    }
+}
+
+/// Why nothing came of a source.
+#[derive(Clone, Copy)]
+pub enum SourceError {
+    /// It is refused for this.
+    Refused(Refusal),
+    /// Memory ran out.
+    Memory,
+}
+
+impl From<LexError> for SourceError {
+    ghost from_gives = { λ error stop. stop ≡ of_lexer error };
+
+    fn from(error: LexError) -> SourceError {
+        match error {
+            LexError::Fault { at, kind: _ } => SourceError::Refused(Refusal::Bytes(at)),
+            LexError::Memory => SourceError::Memory,
+        }
+    }
+}
+
+impl From<ParseError> for SourceError {
+    ghost from_gives = { λ error stop. stop ≡ of_parser error };
+
+    fn from(error: ParseError) -> SourceError {
+        match error {
+            ParseError::Nesting => SourceError::Refused(Refusal::Nesting),
+            ParseError::Fault { at } => SourceError::Refused(Refusal::Parse(at)),
+            ParseError::Memory => SourceError::Memory,
+        }
+    }
+}
+
+impl From<ShapeError> for SourceError {
+    ghost from_gives = { λ error stop. stop ≡ of_shapes error };
+
+    fn from(error: ShapeError) -> SourceError {
+        match error {
+            ShapeError::Fault { at, kind } => SourceError::Refused(Refusal::Shape(kind, at)),
+            ShapeError::Memory => SourceError::Memory,
+        }
+    }
+}
+
+impl From<Memory> for SourceError {
+    ghost from_gives = { λ _ stop. stop ≡ memory };
+
+    fn from(_error: Memory) -> SourceError {
+        SourceError::Memory
     }
 }

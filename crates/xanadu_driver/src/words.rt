@@ -2,8 +2,9 @@
 
 ghost use Rattle.std.specs.Prelude.{◌≡◌};
 ghost use Rattle.std.specs.Option.{option_map};
-ghost use Rattle.xanadu_driver.specs.Words as spec;
-ghost use Rattle.xanadu_driver.specs.Words.{texts, view};
+ghost use Rattle.xanadu_driver.specs.Words.{commanded, view};
+
+use xan_io::is_value;
 
 /// The command that builds the source of one name into the text of another.
 #[derive(Clone, Copy)]
@@ -16,20 +17,11 @@ pub struct BuildCommand<'a> {
 ///
 /// The first word is the command. The others are values: a word that begins with `-` and is longer than that is none.
 pub fn read_command<'a>(words: &[&'a str]) -> Option<BuildCommand<'a>>
-    ensures { spec.words_mean (texts words.now) ≡ option_map view result }
+    ensures { commanded words.now ≡ option_map view result }
 {
     match words {
         [command, source, target] if *command == "build" && is_value(source) && is_value(target) =>
             { Some(BuildCommand { source, target }) }
         _ => None,
-    }
-}
-
-fn is_value(word: &str) -> bool
-    ensures { result ≡ spec.is_value word.now }
-{
-    match word.as_bytes() {
-        [b'-', _, ..] => false,
-        _ => true,
     }
 }

@@ -163,17 +163,15 @@ fn limits_of_length_and_nesting(rt: HostRuntime) -> Result<(), Fail> {
 fn a_refusal_whose_line_fails(rt: HostRuntime) -> Result<(), Fail> {
     let alloc = rt.alloc();
     let source: &[u8] = b"fun main(): int { return y; }";
-    for put in 0..5u64 {
-        let cut = run(
-            alloc,
-            BUILD,
-            Some(source),
-            Vec::new(alloc),
-            1000,
-            one(alloc, put)?,
-        )?;
-        assert!(rt; cut.status == 4 && b"shape 2: at 25\n".starts_with(cut.said.as_slice()));
-    }
+    let cut = run(
+        alloc,
+        BUILD,
+        Some(source),
+        Vec::new(alloc),
+        1000,
+        one(alloc, 0)?,
+    )?;
+    assert!(rt; cut.status == 4 && b"shape 2: at 25\n".starts_with(cut.said.as_slice()));
     let read = run(
         alloc,
         BUILD,

@@ -1,10 +1,13 @@
+//! Runs of the whole compiler as rows of tables.
+
+mod long;
 mod refusals;
 mod shapes;
 
-use crate::xanadu_top;
 use std::alloc::Global;
 use std::test::Fail;
 use xan_io::{MemFiles, MemSink, Memory, SafeFiles};
+use xanadu_driver::xanadu_top;
 
 /// The sum of the first row, its text, and its line.
 const SUM: &[u8] = b"fun main(x: int, y: int): int { return x + y - 3; }";
@@ -147,17 +150,15 @@ fn is_cut(run: &Outcome) -> bool {
 #[test]
 fn the_line_is_cut(rt: HostRuntime) -> Result<(), Fail> {
     let alloc = rt.alloc();
-    for put in 0..3u64 {
-        let cut = run(
-            alloc,
-            BUILD,
-            Some(SUM),
-            Vec::new(alloc),
-            1000,
-            one(alloc, put)?,
-        )?;
-        assert!(rt; is_cut(&cut), "put {put}");
-    }
+    let failing = run(
+        alloc,
+        BUILD,
+        Some(SUM),
+        Vec::new(alloc),
+        1000,
+        one(alloc, 0)?,
+    )?;
+    assert!(rt; is_cut(&failing));
     for room in 0..45u64 {
         let cut = run(
             alloc,

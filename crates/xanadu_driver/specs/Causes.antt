@@ -1,0 +1,106 @@
+-- Why an answer comes of a command, what the names hold then, and how much of it is said.
+use Rattle.std.specs.Prelude.{◌≡◌, ◌⊎◌, ℕ, List, Option, Some, None}
+use Rattle.std.specs.List.{concat}
+use Rattle.std.specs.Io.KnownBytes.{append_known}
+use Rattle.xan_io.specs.Faults.{Rose}
+use Rattle.xan_io.specs.Written.{AppendsPrefix}
+use Rattle.xanadu_driver.specs.declared.answer.Answer.{Answer}
+use Rattle.xanadu_driver.specs.declared.answer.Answer.TheVariants as answer
+use Rattle.xanadu_driver.specs.declared.refusal.Refusal.{Refusal}
+use Rattle.xanadu_driver.specs.Correct.{Wrote, Cut}
+use Rattle.xanadu_driver.specs.Outside.{Held, Outside}
+use Rattle.xanadu_driver.specs.Report.{Report, report_of}
+use Rattle.xanadu_driver.specs.Source.{IsRefused}
+use Rattle.xanadu_driver.specs.Words.{Meant, Build}
+
+-- ---- names
+
+-- the command reads this name
+abbrev pub Reads : Option Meant → List ℕ → Type 0
+Reads None name = ⊥
+Reads (Some (Build source target)) name = name ≡ source
+
+-- the command writes this name
+abbrev pub Writes : Option Meant → List ℕ → Type 0
+Writes None name = ⊥
+Writes (Some (Build source target)) name = name ≡ target
+
+-- no name holds anything else
+abbrev pub Unchanged : Held → Held → Type 0
+Unchanged before after = (name : List ℕ) → after.content name ≡ before.content name
+
+-- ---- the cause of an answer
+
+-- the count of failed reads of the source rose
+pub record ReadFails (source : List ℕ) (before after : Held) : Type 0 where
+  pub rose : Rose (before.read_faults source) (after.read_faults source)
+  pub unchanged : Unchanged before after
+
+-- where the source is told, it is refused for this
+pub record Refuses (source : List ℕ) (refusal : Refusal) (before after : Held) : Type 0 where
+  pub refused : (told : List ℕ) → before.content source ≡ Some told → IsRefused told refusal
+  pub unchanged : Unchanged before after
+
+-- The count of failed writes of the target rose. Where the source is told, it has a text, and the target holds what it held or a prefix
+-- of that.
+pub record WriteFails (source target : List ℕ) (before after : Held) : Type 0 where
+  pub rose : Rose (before.write_faults target) (after.write_faults target)
+  pub cut : (told : List ℕ) → before.content source ≡ Some told → Cut told (before.content target) (after.content target)
+
+-- where the source is told, the target holds its text, of so many instructions
+pub record Builds (source target : List ℕ) (instructions : ℕ) (before after : Held) : Type 0 where
+  pub wrote : (told : List ℕ) → before.content source ≡ Some told → Wrote told instructions (before.content target) (after.content target)
+
+-- of a command to build
+abbrev pub BuildCauses : (source target : List ℕ) → Held → Held → Answer → Type 0
+BuildCauses source target before after answer.NoCommand = ⊥
+BuildCauses source target before after answer.ReadFailed = ReadFails source before after
+BuildCauses source target before after (answer.Refused refusal) = Refuses source refusal before after
+BuildCauses source target before after answer.Memory = Unchanged before after
+BuildCauses source target before after answer.WriteFailed = WriteFails source target before after
+BuildCauses source target before after (answer.Built instructions) = Builds source target instructions before after
+
+-- of words that mean nothing
+abbrev pub NoCauses : Held → Held → Answer → Type 0
+NoCauses before after answer.NoCommand = Unchanged before after
+NoCauses before after _ = ⊥
+
+abbrev pub Causes : Option Meant → Held → Held → Answer → Type 0
+Causes None before after answer = NoCauses before after answer
+Causes (Some (Build source target)) before after answer = BuildCauses source target before after answer
+
+-- ---- what is said
+
+-- all lines were put, and the status is their own
+pub record SaidAll (report : Report) (status faults faults' : ℕ) (out out' : Option (List ℕ)) : Type 0 where
+  pub status_is : status ≡ report.status
+  pub said : out' ≡ append_known out (concat report.lines)
+  pub counted : faults' ≡ faults
+
+-- a part of them was put, and the count of faults rose
+pub record SaidPart (report : Report) (status faults faults' : ℕ) (out out' : Option (List ℕ)) : Type 0 where
+  pub status_is : status ≡ 4
+  pub part : AppendsPrefix out out' (concat report.lines)
+  pub rose : Rose faults faults'
+
+abbrev pub Says : Report → (status faults faults' : ℕ) → (out out' : Option (List ℕ)) → Type 0
+Says report status faults faults' out out' = SaidAll report status faults faults' out out' ⊎ SaidPart report status faults faults' out out'
+
+-- ---- whole commands
+
+-- how a command went: its answer, the cause, and how much was said of it
+pub record Went (meant : Option Meant) (before after : Outside) (status : ℕ) : Type 0 where
+  pub answer : Answer
+  pub cause : Causes meant before.files after.files answer
+  pub said : Says (report_of answer) status before.faults after.faults before.written after.written
+
+-- no count rose of the calls that the command makes
+pub record NothingFailed (meant : Option Meant) (before after : Outside) : Type 0 where
+  pub reads : (name : List ℕ) → Reads meant name → Rose (before.files.read_faults name) (after.files.read_faults name) → ⊥
+  pub writes : (name : List ℕ) → Writes meant name → Rose (before.files.write_faults name) (after.files.write_faults name) → ⊥
+  pub puts : Rose before.faults after.faults → ⊥
+
+-- the status and the lines are those of the report
+pub record IsReported (report : Report) (status : ℕ) (out out' : Option (List ℕ)) : Type 0 where
+  pub status_is : status ≡ report.status
+  pub said : out' ≡ append_known out (concat report.lines)

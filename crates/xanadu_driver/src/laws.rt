@@ -1,0 +1,13 @@
+//! A law about sources.
+
+ghost use Rattle.std.specs.Prelude.{◌≡◌, ℕ, List, Result};
+ghost use Rattle.dtal_code.specs.declared.straight.Straight.{Straight};
+ghost use Rattle.xanadu_driver.specs.declared.refusal.SourceError.{SourceError};
+ghost use Rattle.xanadu_driver.specs.Fate.{fate};
+ghost use Rattle.xanadu_driver.specs.Source.{HasFate};
+
+/// Every source has a fate, and no other: its code, or the first thing that it is refused for.
+pub fn sources_have_one_fate()
+    ensures some { (bytes : List ℕ) → HasFate bytes (fate bytes) }
+    ensures one { (bytes : List ℕ) (a b : Result Straight SourceError) → HasFate bytes a → HasFate bytes b → a ≡ b }
+{}
