@@ -1,13 +1,24 @@
 -- Lists that begin with other ones, and what answers a chain gives whatever stops it.
-use Rattle.std.proofs.Common.{◌≡◌, ◌∙◌, List, [], ◌∷◌, ◌++◌, Result, refl, sym, ap, subst, append_assoc, arith}
+use Rattle.std.proofs.Common.{◌≡◌, ◌⊎◌, inl, inr, Bool as Truth, true, false, ◌∙◌, List, [], ◌∷◌, ◌++◌, Result, refl, sym, ap, subst, append_assoc, arith}
 use Rattle.std.proofs.lemmas.List.{append-nil}
 use Rattle.typed_core.specs.Growth.{Continues, Later}
+use Rattle.typed_core.specs.Limits.{held}
 use Rattle.typed_core.specs.States.{State}
 use Rattle.typed_core.proofs.Fitting.{Answers, Anything}
 
 -- the value, if there is one
 abbrev pub Goes : {A E : Type 0} → (A → Type 0) → Result A E → Type 0
 Goes P answer = Answers Anything P answer
+
+-- what was tested is so
+pub held_known : (b : Truth) → Goes (λ u. b ≡ true) (held b)
+held_known true = record { is = refl }
+held_known false = record { is = tt }
+
+-- by cases on what was found, where the recursion is taken as a function
+pub either : {A B C : Type 0} → A ⊎ B → (A → C) → (B → C) → C
+either (inl a) f g = f a
+either (inr b) f g = g b
 
 module _ {A : Type 0} where
   pub no_more : (xs : List A) → Continues xs xs

@@ -27,7 +27,7 @@ use Rattle.typed_core.specs.Growth.{Continues, Grown}
 use Rattle.typed_core.specs.Limits.{by_rule, held}
 use Rattle.typed_core.specs.States.{Site, State, Asked, asked, all_asked, none_asked, demanding}
 use Rattle.typed_core.specs.Strays.{type_below}
-use Rattle.typed_core.proofs.Continued.{Goes, no_more, one_more, more_again}
+use Rattle.typed_core.proofs.Continued.{held_known, Goes, no_more, one_more, more_again}
 use Rattle.typed_core.proofs.Fitting.{then_answers, weaker, any_answer}
 use Rattle.typed_core.proofs.NamedStates.{known_answer, widened_is, test_all, test_type}
 
@@ -197,10 +197,6 @@ in_onward table r st p f named =
       };
       named = λ closed all. f.named (named closed) all;
     })
-
-held_known : (b : Truth) → Goes (λ u. b ≡ true) (held b)
-held_known true = record { is = refl }
-held_known false = record { is = tt }
 
 module _ (site : Site) where
   pub types_by_goes : (at : Option ℕ) (op : Operation) (types : List Ty) (st : State) → Goes (λ r. Onward site.table st r.1) (types_by site at op types st)

@@ -25,7 +25,7 @@ use Rattle.typed_core.specs.Joins.{is_named, names, stated, with_index, has_inde
 use Rattle.typed_core.specs.Limits.{Walk, within, needed, by_rule, held}
 use Rattle.typed_core.specs.States.{Site, State, resuming, with_fresh, assuming, noting_state, none_asked}
 use Rattle.typed_core.specs.Strays.{clause_rises, values_rise, row_below}
-use Rattle.typed_core.proofs.Continued.{Goes, no_more, one_more, some_more, more_again, same_more, later_here}
+use Rattle.typed_core.proofs.Continued.{held_known, Goes, no_more, one_more, some_more, more_again, same_more, later_here}
 use Rattle.typed_core.proofs.Fitting.{then_answers, any_answer}
 use Rattle.typed_core.proofs.GrownContexts.{RowsBelow, rows_more, Adds, all_add, filled_goes, by_rule_goes, all_asked_more}
 use Rattle.typed_core.proofs.NamedStates.{widened_is, test_all, test_form}
@@ -166,10 +166,6 @@ record States (st : State) (r : List (Result Linear TooLarge) × State) : Type 0
   vars : r.1.ctx.vars ≡ st.ctx.vars
   same : r.1 ≡ record st { ctx = r.1.ctx }
   named : RowsBelow st.ctx.vars st.ctx.rows → RowsBelow r.1.ctx.vars r.1.ctx.rows
-
-held_known : (b : Truth) → Goes (λ u. b ≡ true) (held b)
-held_known true = record { is = refl }
-held_known false = record { is = tt }
 
 row_named : (n : ℕ) (row : Result Linear TooLarge) → row_below n row ≡ true → IsNamed n row
 row_named n (Ok row) e = test_form n row e

@@ -1,5 +1,5 @@
 -- States only grow along tests, on each of their sides.
-use Rattle.std.proofs.Common.{◌≡◌, ◌∙◌, List, [], ◌∷◌, true, false, None, refl}
+use Rattle.std.proofs.Common.{◌∙◌, List, [], ◌∷◌, true, false, None, refl}
 use Rattle.std.specs.List.{All, list_all}
 use Rattle.xan_lin.specs.Linear.{Linear}
 use Rattle.state_types.specs.Tables.{IsClosed}
@@ -21,7 +21,7 @@ use Rattle.typed_core.specs.Operators.{comparison_of, in_order}
 use Rattle.typed_core.specs.States.{Site, State, noting_state}
 use Rattle.typed_core.specs.Strays.{type_below}
 use Rattle.typed_core.specs.Tests.{Sides, branched, truth_leaf, leaf, on_side, tested, all_true, all_false}
-use Rattle.typed_core.proofs.Continued.{Goes, no_more, one_more, more_again, later_here, later_on}
+use Rattle.typed_core.proofs.Continued.{held_known, Goes, no_more, one_more, more_again, later_here, later_on}
 use Rattle.typed_core.proofs.Fitting.{then_answers, weaker, any_answer}
 use Rattle.typed_core.proofs.GivenNamed.{side_named}
 use Rattle.typed_core.proofs.GrownContexts.{RowsBelow, rows_more, Adds, all_add, filled_goes, by_rule_goes, Onward, onward_again, state_by_goes}
@@ -33,10 +33,6 @@ pub record Parts (table : List Packed) (st : State) (sides : Sides) : Type 0 whe
   pub grown : SidesGrown st sides
   pub on_true : All IsClosed table → RowsBelow st.ctx.vars st.ctx.rows → RowsBelow sides.after.ctx.vars sides.on_true
   pub on_false : All IsClosed table → RowsBelow st.ctx.vars st.ctx.rows → RowsBelow sides.after.ctx.vars sides.on_false
-
-held_known : (b : _) → Goes (λ u. b ≡ true) (held b)
-held_known true = record { is = refl }
-held_known false = record { is = tt }
 
 module _ (site : Site) where
   -- the types of a branch name variables so far

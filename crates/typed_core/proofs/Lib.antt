@@ -37,3 +37,4 @@ pub mod FollowedApplied
 pub mod SeparateStores
 pub mod FreeBounds
 pub mod PrintedMore
+pub mod FunctionsFound

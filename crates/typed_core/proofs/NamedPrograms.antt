@@ -16,7 +16,6 @@ use Rattle.state_types.specs.Unpacking.{with_rows}
 use Rattle.state_types.specs.declared.closed.Packed.{Packed}
 use Rattle.state_types.specs.declared.closed.Signature.{Signature}
 use Rattle.state_types.specs.declared.types.Ty.{Ty}
-use Rattle.state_types.proofs.FormNames.{below-variable}
 use Rattle.state_types.proofs.Unpacked.{rows-vars}
 use Rattle.operation_rules.specs.Settings.{IsFew}
 use Rattle.operation_rules.specs.Sound.{IsHeader}
@@ -41,6 +40,7 @@ use Rattle.typed_core.specs.States.{Site, there}
 use Rattle.typed_core.specs.Statements.{block}
 use Rattle.typed_core.specs.Strays.{form_rises, type_rises, form_below, type_below, is_closed}
 use Rattle.typed_core.proofs.Fitting.{Answers, Anything, then_answers, weaker}
+use Rattle.typed_core.proofs.RowsSoFar.{int_closed, bool_closed}
 use Rattle.typed_core.proofs.NamedStates.{Stays, known_answer, answered, needed_stays, context_stays, there_stays, held_stays, within_stays, all_test, form_test, type_test}
 use Rattle.typed_core.proofs.NamedJoins.{EntryBelow, terms_test, type_rising, Behind}
 use Rattle.typed_core.proofs.NamedStatements.{block_stays}
@@ -91,7 +91,7 @@ most_by : (b : Truth) (kind : LimitKind) (count : ℕ) → nat_lt (most kind) co
 most_by true kind count e = record { is = tt }
 most_by false kind count e = record { is = is_not_less (most kind) count e }
 
-most_stays : (kind : LimitKind) (count : ℕ) → Stays (λ u. count ≤ most kind) (within kind count)
+pub most_stays : (kind : LimitKind) (count : ℕ) → Stays (λ u. count ≤ most kind) (within kind count)
 most_stays kind count = most_by (nat_lt (most kind) count) kind count refl
 
 record IsPacked (packed : Packed) : Type 0 where
@@ -124,16 +124,10 @@ closed_all types (p ∷ ps) made all done =
     then_answers (closed_type p) _ (closed_stays types p all.0) (λ one h. closed_all types ps (made ++ one ∷ []) all.1 (All-push IsPacked made one done h))
 
 int_packed : IsPacked int_cell
-int_packed = record {
-  closed = record {
-    rows = All-nil (NamesBelow 1);
-    parts = All-cons (TypeBelow 1) _ [] (below-variable 1 0 (omega arith)) (All-nil (TypeBelow 1));
-  };
-  few = omega arith;
-}
+int_packed = record { closed = int_closed; few = omega arith }
 
 bool_packed : IsPacked bool_cell
-bool_packed = record { closed = record { rows = All-nil (NamesBelow 0); parts = All-cons (TypeBelow 0) _ [] tt (All-nil (TypeBelow 0)) }; few = omega arith }
+bool_packed = record { closed = bool_closed; few = omega arith }
 
 table_stays : (types ps : List Packing) → AllByRecursion (IsPacking types) ps → Stays (All IsPacked) (table_of ps)
 table_stays types ps all =

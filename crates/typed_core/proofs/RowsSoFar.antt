@@ -1,6 +1,5 @@
 -- The rows in front of each statement name only index variables so far.
-use Rattle.std.proofs.Common.{◌≡◌, ◌∙◌, ℕ, inl, inr, List, [], ◌∷◌, ◌++◌, length, Bool as Truth, true, false, Ok, Err, refl, sym, subst, arith}
-use Rattle.std.specs.Prelude.{◌⊎◌}
+use Rattle.std.proofs.Common.{◌≡◌, ◌∙◌, ℕ, inl, inr, List, [], ◌∷◌, ◌++◌, length, true, Ok, Err, refl, sym, subst, arith}
 use Rattle.std.specs.List.{All, list_all}
 use Rattle.std.proofs.lemmas.List.Elements.{All-nil, All-cons, All-head, All-tail, All-push}
 use Rattle.index_sorts.specs.Context.{IndexContext}
@@ -28,7 +27,7 @@ use Rattle.typed_core.specs.States.{Site, State, point, noting_state}
 use Rattle.typed_core.specs.Statements.{statement, block, other_branch}
 use Rattle.typed_core.specs.Strays.{form_below, type_below, is_closed}
 use Rattle.typed_core.specs.Tests.{tested, on_side}
-use Rattle.typed_core.proofs.Continued.{Goes}
+use Rattle.typed_core.proofs.Continued.{either, held_known, Goes}
 use Rattle.typed_core.proofs.Fitting.{then_answers, any_answer}
 use Rattle.typed_core.proofs.GrownContexts.{RowsBelow, rows_more, row_adds}
 use Rattle.typed_core.proofs.GrownTests.{tested_goes}
@@ -37,10 +36,6 @@ use Rattle.typed_core.proofs.GrownStatements.{statement_goes, block_goes}
 use Rattle.typed_core.proofs.NamedStates.{answered, test_all, test_form, test_type}
 
 -- ---- closed types, as the definition tests them
-
-held_known : (b : Truth) → Goes (λ u. b ≡ true) (held b)
-held_known true = record { is = refl }
-held_known false = record { is = tt }
 
 test_closed : (p : Packed) → is_closed p ≡ true → IsClosed p
 test_closed p e =
@@ -65,10 +60,10 @@ unfolding closed_types
 types_closed [] made all = record { is = all }
 types_closed (p ∷ ps) made all = then_answers (closed_type p) _ (type_closed p) (λ one h. types_closed ps (made ++ one ∷ []) (All-push IsClosed made one all h))
 
-int_closed : IsClosed int_cell
+pub int_closed : IsClosed int_cell
 int_closed = record { rows = All-nil (NamesBelow 1); parts = All-cons (TypeBelow 1) _ [] (below-variable 1 0 (omega arith)) (All-nil (TypeBelow 1)) }
 
-bool_closed : IsClosed bool_cell
+pub bool_closed : IsClosed bool_cell
 bool_closed = record { rows = All-nil (NamesBelow 0); parts = All-cons (TypeBelow 0) _ [] tt (All-nil (TypeBelow 0)) }
 
 pub table_closed : (ps : List Packing) (table : List Packed) → table_of ps ≡ Ok table → All IsClosed table
@@ -107,10 +102,6 @@ pub start_named : (sig : Signature) (goals : List GoalAt) (notes : List Note) (s
 start_named sig goals notes start e = answered (body_start sig goals notes) start (begin_named sig goals notes) e
 
 -- ---- in front of statements
-
-either : {A B C : Type 0} → A ⊎ B → (A → C) → (B → C) → C
-either (inl a) f g = f a
-either (inr b) f g = g b
 
 module _ (site : Site) (closed : All IsClosed site.table) where
   mutual

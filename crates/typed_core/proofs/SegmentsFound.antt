@@ -1,6 +1,6 @@
 -- The statements that stand in a block are its segments.
 use Rattle.std.proofs.Common.{◌≡◌, ◌∙◌, ℕ, inl, inr, List, Bool as Truth, true, false, Option, None, Result, Ok, sym, ap, subst, arith}
-use Rattle.std.specs.Prelude.{◌⊎◌, ◌||◌}
+use Rattle.std.specs.Prelude.{◌||◌}
 use Rattle.xan_lin.specs.Linear.{Linear}
 use Rattle.state_types.specs.Answers.{◌>>=◌}
 use Rattle.state_types.specs.declared.state.StateType.{StateType}
@@ -16,7 +16,7 @@ use Rattle.typed_core.specs.Segments.{IsSegment}
 use Rattle.typed_core.specs.States.{Site, State, point, resuming, noting_state}
 use Rattle.typed_core.specs.Statements.{Branches, meeting, after_branches, other_branch, statement, block}
 use Rattle.typed_core.specs.Tests.{tested, on_side}
-use Rattle.typed_core.proofs.Continued.{Goes, no_more, later_here, later_on}
+use Rattle.typed_core.proofs.Continued.{either, Goes, no_more, later_here, later_on}
 use Rattle.typed_core.proofs.Fitting.{then_answers, weaker}
 use Rattle.typed_core.proofs.GrownTests.{tested_goes}
 use Rattle.typed_core.proofs.GrownJoins.{joined_goes, entered_goes, entered_if_goes}
@@ -58,10 +58,6 @@ after_later p q join site at changed before one two =
     meeting_later site at join changed before (record { one = one; two = point two; one_completes = p; two_completes = q }) two
 
 -- ---- the statements of a block
-
-either : {A B C : Type 0} → A ⊎ B → (A → C) → (B → C) → C
-either (inl a) f g = f a
-either (inr b) f g = g b
 
 module _ (site : Site) where
   mutual

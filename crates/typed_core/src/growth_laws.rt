@@ -1,15 +1,16 @@
 //! How states grow along a walk, and what is named there.
 
-ghost use Rattle.std.specs.Prelude.{◌≡◌, ◌≤◌, ℕ, false, Ok, All};
+ghost use Rattle.std.specs.Prelude.{◌≡◌, ◌≤◌, ℕ, false, Some, Ok, All, slice_get};
 ghost use Rattle.state_types.specs.PlaceTypes.{type_at};
 ghost use Rattle.state_types.specs.Tables.{IsClosed};
 ghost use Rattle.state_types.specs.Types.{TypeBelow};
 ghost use Rattle.state_types.specs.declared.types.Ty.{Ty};
+ghost use Rattle.typed_core.specs.Goals.{Elaboration, elaborated};
 ghost use Rattle.typed_core.specs.Growth.{Later, Grown, SidesGrown, NamesSoFar, SidesNamed};
 ghost use Rattle.typed_core.specs.Joins.{changes_any};
 ghost use Rattle.typed_core.specs.Operands.{operand};
 ghost use Rattle.typed_core.specs.Reached.{IsBefore, StandsIn};
-ghost use Rattle.typed_core.specs.Segments.{IsSegment};
+ghost use Rattle.typed_core.specs.Segments.{IsFunctionSegment, IsSegment};
 ghost use Rattle.typed_core.specs.States.{Site, State};
 ghost use Rattle.typed_core.specs.Statements.{block};
 ghost use Rattle.typed_core.specs.Tests.{Sides, tested};
@@ -47,4 +48,10 @@ pub fn rows_name_variables_so_far()
 pub fn reached_statements_are_segments()
     ensures { (site : Site) (ss : core.Stmts) (st end : State) (reached : core.Stmt) (there : State) → StandsIn site ss st reached there
         → block site ss st ≡ Ok end → IsSegment site reached st there end }
+{}
+
+/// Each function of an elaborated program is elaborated from where its body begins, and what it makes is a segment of all that is made.
+pub fn elaborated_functions_are_segments()
+    ensures { (program : core.Program) (made : Elaboration) (fun : ℕ) (f : core.Fun) → elaborated program ≡ Ok made
+        → slice_get program.funs fun ≡ Some f → IsFunctionSegment program made fun f }
 {}

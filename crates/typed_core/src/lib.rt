@@ -17,8 +17,8 @@ mod run_laws;
 pub use crate::elaborated::Elaborated;
 pub use crate::goal::GoalAt;
 pub use crate::growth_laws::{
-    blocks_grow, expressions_grow, reached_statements_are_segments, rows_name_variables_so_far,
-    tests_grow,
+    blocks_grow, elaborated_functions_are_segments, expressions_grow,
+    reached_statements_are_segments, rows_name_variables_so_far, tests_grow,
 };
 pub use crate::laws::{
     followed_rules_are_applied, shaped_cores_fit, shaped_cores_never_stray,
