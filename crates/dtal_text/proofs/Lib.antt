@@ -1,6 +1,17 @@
 mod Readers
 mod Operands
-mod Lines
+mod StraightLines
+mod LowerNames
 mod Headers
 mod Whole
 mod Loops
+mod ChainLaws
+mod SpelledValues
+mod ListingLaws
+mod TypeTexts
+mod OperandTexts
+mod LabelTexts
+mod LineWords
+mod BodyTexts
+mod BlockTexts
+pub mod ProgramTexts

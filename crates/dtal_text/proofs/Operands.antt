@@ -1,9 +1,9 @@
 -- What is read behind the word of an instruction, and the line, are spelled so.
-use Rattle.std.proofs.Common.{◌≡◌, ℕ, ◌+◌, ◌-◌, ◌<◌, ◌≤◌, Bool, true, false, nat_lt, FitsSigned, List, ◌++◌, ℤ, pos, negsuc, codes, decimal, refl, sym, ap, ◌∙◌, arith, inl, inr}
+use Rattle.std.proofs.Common.{◌≡◌, ℕ, ◌+◌, ◌-◌, ◌<◌, ◌≤◌, Bool, true, false, nat_lt, FitsSigned, List, ◌++◌, codes, decimal, refl, sym, ap, ◌∙◌, arith, inl, inr}
 use Rattle.std.specs.Fmt.{signed_decimal}
 use Rattle.std.specs.Int.{w64}
 use Rattle.std.proofs.lemmas.Bool.Decides.{nat_tests}
-use Rattle.xan_read.specs.Reader.{Reader, Exact}
+use Rattle.xan_read.specs.Reader.{Exact}
 use Rattle.xan_read.specs.Combinators.{give, in_turn, behind, IsBehind, IsMade, WhereComes, after}
 use Rattle.xan_read.specs.Numbers.{number, IsNumber, NoDigit}
 use Rattle.xan_read.specs.Spelled.{Any, Spelled, IsBetween, Both, spaced}
@@ -16,10 +16,10 @@ use Rattle.dtal_text.specs.Instructions.{register, place, load, two_places, two_
 
 -- ---- places
 
-register_text : (n : ℕ) → n < 16 → place_text n ≡ codes "r" ++ decimal n
+pub register_text : (n : ℕ) → n < 16 → place_text n ≡ codes "r" ++ decimal n
 register_text n h = let low : nat_lt n 16 ≡ true = grind (arith, nat_tests) in rw low refl
 
-slot_text : (n : ℕ) → place_text (n + 16) ≡ codes "s" ++ decimal n
+pub slot_text : (n : ℕ) → place_text (n + 16) ≡ codes "s" ++ decimal n
 slot_text n =
     let high : nat_lt (n + 16) 16 ≡ false = grind (arith, nat_tests) in
     let same : n + 16 - 16 ≡ n = omega arith in

@@ -1,10 +1,7 @@
 -- Literals in turn, and readers that follow one another.
-use Rattle.std.proofs.Common.{◌≡◌, ℕ, Bool, true, false, cond, eqb, suc, List, [], ◌∷◌, ◌++◌, length, Result, Ok, Err, refl, sym, ap, subst, ◌∙◌}
-use Rattle.std.proofs.lemmas.List.{append-nil}
-use Rattle.xan_read.specs.Reader.{Reader, ◌>>=◌, Exact}
-use Rattle.xan_read.specs.Combinators.{give, IsGiven, in_turn, InTurn, literal}
-use Rattle.xan_read.specs.Spelled.{Any, Spelled}
-use Rattle.xan_read.proofs.ReaderLaws.{exact-give, exact-in_turn, exact_as}
+use Rattle.std.proofs.Common.{◌≡◌, ℕ, Bool, true, false, cond, eqb, suc, List, [], ◌∷◌, ◌++◌, length, Result, Ok, Err, refl}
+use Rattle.xan_read.specs.Reader.{◌>>=◌}
+use Rattle.xan_read.specs.Combinators.{literal}
 
 -- two literals in turn are one
 pub literal-append : (a b bytes : List ℕ) → literal (a ++ b) bytes ≡ (literal a bytes >>= literal b)

@@ -16,7 +16,7 @@ use Rattle.xan_read.specs.Code.{Fails}
 use Rattle.dtal_text.specs.StraightText.{IsStraightText, Refuses, said_of}
 use Rattle.dtal_text.specs.Programs.{program, is_last, ends_last}
 use Rattle.dtal_text.proofs.Headers.{IsHeader, exact-header}
-use Rattle.dtal_text.proofs.Lines.{AreLines, exact-lines}
+use Rattle.dtal_text.proofs.StraightLines.{AreLines, exact-lines}
 
 -- ---- the last instruction
 

@@ -1,3 +1,9 @@
 pub mod StraightText
 pub mod Instructions
 pub mod Programs
+pub mod Chains
+pub mod Listings
+pub mod TypeReading
+pub mod OperandReading
+pub mod LineReading
+pub mod ProgramReading

@@ -1,16 +1,24 @@
-//! The reader of the assembly language's text, as far as straight programs go.
+//! The reader of the assembly language's text.
 //!
-//! [`read_straight`] reads exactly the texts that the definition in `dtal_code` gives: it answers the one program that the bytes
-//! spell, or that they spell none. Each production is a reader of `xan_read`, and a function that gives what the reader gives.
+//! The reading of whole programs is a function here, and its law joins it to the text of `dtal_code`: what is read is spelled so, what is
+//! spelled so is read, and where reading fails the place is told by the language alone. The code reads straight programs so far:
+//! [`read_straight`] answers the one program that the bytes spell, or that they spell none. Each production is a reader of `xan_read`,
+//! and a function that gives what the reader gives.
 #![tactic(auto)]
 
 mod error;
 mod header;
 mod instruction;
+mod laws;
+mod line;
 mod mnemonic;
 mod program;
 #[cfg(test)]
 mod tests;
+mod word;
 
 pub use error::StraightError;
+pub use laws::program_texts_are_read;
+pub use line::{BodyLine, Lines, Stand, Which};
 pub use program::read_straight;
+pub use word::{LineWord, OpWord, TyWord};
