@@ -1,5 +1,5 @@
 mod FormValues
 mod WrittenValues
 mod RelationRows
-mod SourceTrees
+mod SourceReading
 mod CoreExamples
