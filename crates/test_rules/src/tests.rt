@@ -38,7 +38,7 @@ fn rows_of(alloc: Global, side: bool, comparison: u32) -> Option<Vec<u8>> {
 }
 
 // A function without parameters whose result is the number 0.
-fn plain_signature(alloc: Global) -> Option<Signature>
+pub(crate) fn plain_signature(alloc: Global) -> Option<Signature>
     ensures few { IfSome result IsFew }
 {
     let nothing = Form::from_terms(&[], 0).ok()?;

@@ -1,5 +1,5 @@
 -- Intervals by a table of live places.
-use Rattle.std.proofs.Common.{◌≡◌, ℕ, zero, suc, ◌+◌, ◌==◌, ◌<◌, ◌≤◌, Bool, true, false, ◌||◌, ◌&&◌, nat_lt, inl, inr, List, length, Option, Some, None, refl, sym, ap, ◌∙◌, subst, arith}
+use Rattle.std.proofs.Common.{◌≡◌, ℕ, zero, suc, ◌+◌, ◌==◌, ◌<◌, ◌≤◌, Bool, true, false, ◌||◌, ◌&&◌, nat_lt, inl, inr, length, Some, None, refl, sym, ap, ◌∙◌, subst, arith}
 use Rattle.std.proofs.lemmas.Bool.{cases_lt, eqb-true}
 use Rattle.std.proofs.lemmas.Bool.Decides.{nat_tests}
 use Rattle.std.proofs.lemmas.Option.{none-some}
@@ -7,26 +7,10 @@ use Rattle.three_address.specs.declared.function.LowFun.{LowFun}
 use Rattle.three_address.specs.Flow.{writes_at}
 use Rattle.three_address.specs.Intervals.{Held, IsLive, IsWritten, IsParameter, IsInterval}
 use Rattle.three_address.specs.LiveTables.{has, bit, round, rounds}
+use Rattle.three_address.specs.TableIntervals.{first_if, first_from, last_if, last_from, held, first_held, last_held}
 use Rattle.three_address.proofs.LiveRounds.{either, both, and-true, left_true, right_true, there-has, has-there, rounds-live, live-found, live-within, written-within}
 
 -- ---- the first and the last of so many numbers from one on that pass a test
-
-abbrev pub first_if : Bool → ℕ → Option ℕ → Option ℕ
-first_if true at later = Some at
-first_if false at later = later
-
-unfoldable pub first_from : (ℕ → Bool) → (from count : ℕ) → Option ℕ
-first_from p from zero = None
-first_from p from (suc count) = first_if (p from) from (first_from p (suc from) count)
-
-abbrev pub last_if : Option ℕ → Bool → ℕ → Option ℕ
-last_if (Some later) b at = Some later
-last_if None true at = Some at
-last_if None false at = None
-
-unfoldable pub last_from : (ℕ → Bool) → (from count : ℕ) → Option ℕ
-last_from p from zero = None
-last_from p from (suc count) = last_if (last_from p (suc from) count) (p from) from
 
 some-same : (a b : ℕ) → Some a ≡ Some b → a ≡ b
 some-same a b e = cc
@@ -98,16 +82,6 @@ last-greatest p from (suc count) at passes le lt = elim (cases_lt from at) [
         ] refl e
 
 -- ---- intervals
-
-abbrev pub held : LowFun → List (List Bool) → (place at : ℕ) → Bool
-held fun table place at = bit table at place || (has (writes_at fun at) place || ((at == 0) && nat_lt place (length fun.sig.params)))
-
--- the first and the last position at which the place is held
-abbrev pub first_held : LowFun → List (List Bool) → (place : ℕ) → Option ℕ
-first_held fun table place = first_from (held fun table place) 0 (length fun.code)
-
-abbrev pub last_held : LowFun → List (List Bool) → (place : ℕ) → Option ℕ
-last_held fun table place = last_from (held fun table place) 0 (length fun.code)
 
 -- in a table of live places that a round leaves as it is
 module _ (fun : LowFun) (count : ℕ) (done : round fun (rounds fun count) ≡ rounds fun count) (some : 0 < length fun.code) (place : ℕ) (small : place < fun.places) where

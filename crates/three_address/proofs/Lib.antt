@@ -7,3 +7,6 @@ pub mod EachInstruction
 pub mod LowLiveness
 pub mod LowTyping
 pub mod LowIdentity
+pub mod SplitParts
+pub mod WaysBy
+pub mod MarksMade

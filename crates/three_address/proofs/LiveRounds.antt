@@ -41,14 +41,14 @@ has-there xs x e = Contains-from_any (λ a b. eqb-true a b) x xs e
 pub there-has : (xs : List ℕ) (x : ℕ) → Contains xs x → has xs x ≡ true
 there-has xs x c = list_any_at (λ y. x == y) xs c.0 x c.1 (let e : x ≡ slice_index_or xs c.0 x = sym c.2 in grind (arith, nat_tests))
 
-any-there : (p : ℕ → Bool) (xs : List ℕ) → list_any p xs ≡ true → (x : ℕ) × Contains xs x × (p x ≡ true)
+pub any-there : (p : ℕ → Bool) (xs : List ℕ) → list_any p xs ≡ true → (x : ℕ) × Contains xs x × (p x ≡ true)
 any-there p [] e = cc
 any-there p (x ∷ xs) e = elim (either (p x) (list_any p xs) e) [
   | inl h ↦ (x, (0, omega arith, refl), h)
   | inr h ↦ let found = any-there p xs h in (found.0, (suc found.1.0, omega (arith, found.1.1), found.1.2), found.2)
 ]
 
-there-any : (p : ℕ → Bool) (xs : List ℕ) (x : ℕ) → Contains xs x → p x ≡ true → list_any p xs ≡ true
+pub there-any : (p : ℕ → Bool) (xs : List ℕ) (x : ℕ) → Contains xs x → p x ≡ true → list_any p xs ≡ true
 there-any p xs x c e = list_any_at p xs c.0 x c.1 (ap p c.2 ∙ e)
 
 -- ---- tables
@@ -157,7 +157,7 @@ way-within fun at next c = elim (cases_lt at (length fun.code)) [
   | inr h ↦ absurd (omega (arith, ap (λ o. length (ways_of o at (label_at fun.labels (target_of (slice_get fun.code at))))) (none-past fun at h), c.1))
 ]
 
-not-there : (b : Bool) → (b ≡ true → ⊥) → not b ≡ true
+pub not-there : (b : Bool) → (b ≡ true → ⊥) → not b ≡ true
 not-there true h = absurd (h refl)
 not-there false h = refl
 

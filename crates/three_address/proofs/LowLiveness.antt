@@ -5,7 +5,8 @@ use Rattle.three_address.specs.Flow.{instruction_at, reads_at, writes_at, ways_f
 use Rattle.three_address.specs.Instructions.{instruction_of}
 use Rattle.three_address.specs.Intervals.{IsInterval}
 use Rattle.three_address.specs.Liveness.{Live}
-use Rattle.three_address.proofs.HeldRanges.{first_from, last_from, is-interval}
+use Rattle.three_address.specs.TableIntervals.{first_from, last_from}
+use Rattle.three_address.proofs.HeldRanges.{is-interval}
 use Rattle.three_address.specs.LiveTables.{tabulated, round, rounds}
 use Rattle.three_address.proofs.LiveRounds.{rounds-live, live-found}
 use Rattle.three_address.proofs.LowSources.{sum_fun}

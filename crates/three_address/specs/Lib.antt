@@ -7,3 +7,6 @@ pub mod Typing
 pub mod Liveness
 pub mod LiveTables
 pub mod Intervals
+pub mod TableIntervals
+pub mod Splits
+pub mod PlaceLives

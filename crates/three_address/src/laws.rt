@@ -1,10 +1,12 @@
 //! Runs of the code over places, and its live places.
 
-ghost use Rattle.std.specs.Prelude.{◌≡◌, ℕ, ◌<◌, List, Bool as Truth, true};
+ghost use Rattle.std.specs.Prelude.{◌≡◌, ℕ, ◌<◌, List, length, Bool as Truth, true, Some};
 ghost use Rattle.xan_io.specs.Agreement.{IsSteady};
 ghost use Rattle.xan_io.specs.declared.arg.Arg.{Arg};
 ghost use Rattle.three_address.specs.LiveTables.{bit, round, rounds};
 ghost use Rattle.three_address.specs.Liveness.{Live};
+ghost use Rattle.three_address.specs.Intervals.{IsInterval};
+ghost use Rattle.three_address.specs.TableIntervals.{first_held, last_held};
 ghost use Rattle.three_address.specs.declared.function.LowFun.{LowFun};
 ghost use Rattle.three_address.specs.declared.function.Lowered.{Lowered};
 ghost use Rattle.three_address.specs.Entry.{low_outcome};
@@ -23,4 +25,11 @@ pub fn found_places_are_live()
 pub fn steady_tables_have_all_live_places()
     ensures { (fun : LowFun) (table : List (List Truth)) → round fun table ≡ table → (at place : ℕ) → place < fun.places → Live fun at place
         → bit table at place ≡ true }
+{}
+
+/// The first and the last position at which such a table of rounds holds a place are the least range that the place has to keep its word in.
+pub fn table_ranges_are_intervals()
+    ensures { (fun : LowFun) (count place first last : ℕ) → round fun (rounds fun count) ≡ rounds fun count → 0 < length fun.code
+        → place < fun.places → first_held fun (rounds fun count) place ≡ Some first → last_held fun (rounds fun count) place ≡ Some last
+        → IsInterval fun place first last }
 {}

@@ -9,6 +9,8 @@ mod assignment;
 mod function;
 mod instruction;
 mod laws;
+mod marks;
+mod parts;
 mod typed;
 
 pub use crate::assignment::{Assignment, REGISTERS};
@@ -16,5 +18,7 @@ pub use crate::function::{LowFun, Lowered, PLACES};
 pub use crate::instruction::{LowInstr, Op22};
 pub use crate::laws::{
     found_places_are_live, low_runs_are_steady, steady_tables_have_all_live_places,
+    table_ranges_are_intervals,
 };
+pub use crate::marks::live_positions;
 pub use crate::typed::{Edge, ProvedRow, Typed};
