@@ -8,3 +8,4 @@ pub mod VerifiedPrograms
 pub mod ObjectRuns
 mod ArraySums
 mod CodeRuns
+pub mod Appended

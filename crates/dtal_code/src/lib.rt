@@ -8,14 +8,18 @@
 #![tactic(auto)]
 
 pub mod instruction;
+mod instruction_text;
 mod laws;
 pub mod limits;
+mod lists;
 mod object;
 mod op;
-mod print;
+mod pieces;
 mod program;
 mod refusal;
 mod straight;
+mod straight_text;
+mod type_text;
 
 pub use instruction::{Cmp, Instr};
 pub use laws::{
@@ -24,7 +28,8 @@ pub use laws::{
 };
 pub use object::{Object, RunOp};
 pub use op::Op;
-pub use print::print_straight;
+
 pub use program::{Block, DtalProgram, Function, LabelState};
 pub use refusal::{Refusal, Rule, Where};
 pub use straight::Straight;
+pub use straight_text::print_straight;

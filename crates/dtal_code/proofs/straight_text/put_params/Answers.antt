@@ -1,7 +1,7 @@
 use Rattle.std.proofs.Common.{◌≡◌, ℕ, ◌+◌, ◌++◌, add-one, ap, arith}
 use Rattle.std.proofs.lemmas.Grind.{common_steps}
 use Rattle.dtal_code.specs.Text.{params_text, gap, int_text}
-use Rattle.dtal_code.proofs.print.put_params.Goals as goal
+use Rattle.dtal_code.proofs.straight_text.put_params.Goals as goal
 
 -- one parameter more
 params_next : (param : ℕ) → params_text (param + 1) ≡ params_text param ++ gap param ++ int_text param

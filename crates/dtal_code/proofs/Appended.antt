@@ -1,0 +1,4 @@
+-- Pieces of a text, one behind the other.
+use Rattle.std.proofs.Common.{append_assoc}
+
+pub ruleset appended = (append_assoc)
