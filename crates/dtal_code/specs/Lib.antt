@@ -17,3 +17,4 @@ pub mod Runs
 pub mod Safety
 pub mod Fitting
 pub mod ObjectWords
+pub mod Printed

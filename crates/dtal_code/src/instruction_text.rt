@@ -111,7 +111,11 @@ fn put_lb(out: &mut Vec<u8>, rd: u8, truth: bool) -> Result<(), Memory>
 fn put_truth(out: &mut Vec<u8>, truth: bool) -> Result<(), Memory>
     ensures { OnOk result (out.new.items ≡ out.old.items ++ spec.truth_text truth) }
 {
-    if truth { put(out, b"1") } else { put(out, b"0") }
+    if truth {
+        put(out, b"1")
+    } else {
+        put(out, b"0")
+    }
 }
 
 fn put_comparison(out: &mut Vec<u8>, c: Cmp) -> Result<(), Memory>

@@ -2,8 +2,8 @@
 //!
 //! This crate owns the definitions: which bytes spell a program, which programs are accepted, what a machine makes of their object code
 //! step by step, where a run begins, and what it is for a run to be safe. It promises that what the walk over a program's places does not
-//! refuse is accepted, and that a run is steady: an end stays, and what was printed stays printed. Of straight programs, that is of one
-//! function without jumps, it has the printer too, and promises that the printed text is the one spelling and that a text spells at most
+//! refuse is accepted, and that a run is steady: an end stays, and what was printed stays printed. [`print`] writes the one spelling of a
+//! program. Of straight programs, that is of one function without jumps, it has a printer too, and promises that a text spells at most
 //! one program. It stands on `operation_rules` and `proof_lines`, with what these stand on.
 #![tactic(auto)]
 
@@ -16,6 +16,7 @@ mod object;
 mod op;
 mod pieces;
 mod program;
+mod program_text;
 mod refusal;
 mod straight;
 mod straight_text;
@@ -28,8 +29,8 @@ pub use laws::{
 };
 pub use object::{Object, RunOp};
 pub use op::Op;
-
 pub use program::{Block, DtalProgram, Function, LabelState};
+pub use program_text::print;
 pub use refusal::{Refusal, Rule, Where};
 pub use straight::Straight;
 pub use straight_text::print_straight;

@@ -35,7 +35,11 @@ fn put_each_behind<T: Piece>(out: &mut Vec<u8>, mark: &[u8], items: &[T]) -> Res
 }
 
 /// Appends pieces with a mark between two.
-pub(crate) fn put_joined<T: Piece>(out: &mut Vec<u8>, mark: &[u8], items: &[T]) -> Result<(), Memory>
+pub(crate) fn put_joined<T: Piece>(
+    out: &mut Vec<u8>,
+    mark: &[u8],
+    items: &[T],
+) -> Result<(), Memory>
     ensures { OnOk result (out.new.items ≡ out.old.items ++ joined mark.now T.text items.now) }
 {
     let [first, rest @ ..] = items else {
