@@ -3,7 +3,7 @@
 use crate::tests::plain_signature;
 use std::alloc::Global;
 use std::test::Fail;
-use three_address::{LowFun, LowInstr, Op22, live_positions};
+use three_address::{LowFun, LowInstr, Op22, is_live_at, live_at_labels, live_positions};
 use xan_io::Name;
 use xan_seq::Seq;
 
@@ -55,6 +55,20 @@ fn drawn(alloc: Global, fun: &LowFun, place: u16) -> Option<Vec<u8>> {
     Some(text)
 }
 
+// The same of the four places at a label.
+fn drawn_at(alloc: Global, columns: &[Seq<bool>], label: u32) -> Option<Vec<u8>> {
+    let mut text = Vec::new(alloc);
+    for place in 0..4 {
+        text.push(if is_live_at(columns, label, place) {
+            b'*'
+        } else {
+            b'.'
+        })
+        .ok()?;
+    }
+    Some(text)
+}
+
 #[test]
 fn live_places_are_as_by_hand(rt: HostRuntime) -> Result<(), Fail> {
     let alloc = rt.alloc();
@@ -67,5 +81,17 @@ fn live_places_are_as_by_hand(rt: HostRuntime) -> Result<(), Fail> {
     assert!(rt; index.as_slice() == b".*********.".as_slice());
     assert!(rt; result.as_slice() == b"..*********".as_slice());
     assert!(rt; temporary.as_slice() == b"....*.*.*..".as_slice());
+    Ok(())
+}
+
+#[test]
+fn labels_are_as_by_hand(rt: HostRuntime) -> Result<(), Fail> {
+    let alloc = rt.alloc();
+    let fun = sum(alloc).ok_or("memory")?;
+    let columns = live_at_labels(alloc, &fun).map_err(|_| "memory")?;
+    let head = drawn_at(alloc, columns.as_slice(), 1).ok_or("memory")?;
+    let behind = drawn_at(alloc, columns.as_slice(), 2).ok_or("memory")?;
+    assert!(rt; head.as_slice() == b"***.".as_slice());
+    assert!(rt; behind.as_slice() == b"..*.".as_slice());
     Ok(())
 }

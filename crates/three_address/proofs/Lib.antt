@@ -10,3 +10,4 @@ pub mod LowIdentity
 pub mod SplitParts
 pub mod WaysBy
 pub mod MarksMade
+pub mod LabelColumns

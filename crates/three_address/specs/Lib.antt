@@ -10,3 +10,4 @@ pub mod Intervals
 pub mod TableIntervals
 pub mod Splits
 pub mod PlaceLives
+pub mod LiveLabels

@@ -8,6 +8,7 @@
 mod assignment;
 mod function;
 mod instruction;
+mod labels;
 mod laws;
 mod marks;
 mod parts;
@@ -16,9 +17,10 @@ mod typed;
 pub use crate::assignment::{Assignment, REGISTERS};
 pub use crate::function::{LowFun, Lowered, PLACES};
 pub use crate::instruction::{LowInstr, Op22};
+pub use crate::labels::{is_live_at, live_at_labels};
 pub use crate::laws::{
-    found_places_are_live, low_runs_are_steady, steady_tables_have_all_live_places,
-    table_ranges_are_intervals,
+    found_places_are_live, low_runs_are_steady, marks_at_labels_are_live,
+    steady_tables_have_all_live_places, table_ranges_are_intervals,
 };
 pub use crate::marks::live_positions;
 pub use crate::typed::{Edge, ProvedRow, Typed};

@@ -13,8 +13,8 @@ use crate::parts::parts;
 use std::alloc::Global;
 use xan_io::Memory;
 
-// Whether a position is marked.
-fn is_marked(marks: &[bool], at: usize) -> bool
+/// Whether a position is marked.
+pub(crate) fn is_marked(marks: &[bool], at: usize) -> bool
     ensures { result ≡ split.marked marks.now at }
 {
     match marks.get(at) {
