@@ -1,5 +1,5 @@
 -- Sums of cells, one after another.
-use Rattle.std.proofs.Common.{◌≡◌, ℕ, ◌+◌, ◌<◌, ◌≤◌, ℤ, pos, ◌+ℤ◌, ◌*ℤ◌, ◌&&◌, Bool, true, false, List, [], ◌∷◌, ◌++◌, length, drop, get_or, refl, sym, ◌∙◌, ap, arith}
+use Rattle.std.proofs.Common.{◌≡◌, ℕ, suc, ◌+◌, ◌<◌, ◌≤◌, ℤ, pos, ◌+ℤ◌, ◌*ℤ◌, ◌&&◌, Bool, true, false, List, [], ◌∷◌, ◌++◌, length, drop, get_or, refl, sym, ◌∙◌, ap, arith}
 use Rattle.std.specs.List.{list_all}
 use Rattle.std.proofs.lemmas.List.{append_assoc, append-nil, length-append, drop_more, drop_all}
 use Rattle.std.proofs.lemmas.List.Folds.{list_all-append}
@@ -66,3 +66,29 @@ adds_all made a left b right at m h = (
   sym (append-nil made) ∙ ap (λ xs. made ++ xs) (sym (ap (λ xs. combined_cells a xs b (drop at right)) (drop_all at left h) ∙ combined-none a b (drop at right))) ∙ m.same,
   m.small,
 )
+
+-- ---- behind the first
+
+shifted : (a x : ℤ) (left : List ℤ) (b y : ℤ) (right : List ℤ) (at : ℕ) → sum_at a (x ∷ left) b (y ∷ right) (at + 1) ≡ sum_at a left b right at
+shifted a x left b y right at = let next : at + 1 ≡ suc at = omega arith in ap (λ n. sum_at a (x ∷ left) b (y ∷ right) n) next
+
+pub adds_next : (made new : List ℤ) (a x : ℤ) (left : List ℤ) (b y : ℤ) (right : List ℤ) (at : ℕ) → Adding made a (x ∷ left) b (y ∷ right) (at + 1) → at < length left → length left ≡ length right
+    → new ≡ made ++ sum_at a left b right at ∷ [] → is_within (sum_at a left b right at) ≡ true → Adding new a (x ∷ left) b (y ∷ right) (at + 1 + 1)
+adds_next made new a x left b y right at m h alike change small =
+    let same = shifted a x left b y right at in
+    adds_more made new a (x ∷ left) b (y ∷ right) (at + 1) m (omega arith) (omega (arith, alike)) (change ∙ ap (λ n. made ++ n ∷ []) (sym same)) (ap is_within same ∙ small)
+
+pub adds_past_next : (made : List ℤ) (a x : ℤ) (left : List ℤ) (b y : ℤ) (right : List ℤ) (at : ℕ) → Adding made a (x ∷ left) b (y ∷ right) (at + 1) → at < length left → length left ≡ length right
+    → is_within (sum_at a left b right at) ≡ false → list_all is_within (combined_cells a (x ∷ left) b (y ∷ right)) ≡ false
+adds_past_next made a x left b y right at m h alike large =
+    adds_past made a (x ∷ left) b (y ∷ right) (at + 1) m (omega arith) (omega (arith, alike)) (ap is_within (shifted a x left b y right at) ∙ large)
+
+pub adds_first : (none made : List ℤ) (a x : ℤ) (left : List ℤ) (b y : ℤ) (right : List ℤ) → none ≡ [] → length left ≡ length right → made ≡ none ++ ((x *ℤ a) +ℤ (y *ℤ b)) ∷ []
+    → is_within ((x *ℤ a) +ℤ (y *ℤ b)) ≡ true → Adding made a (x ∷ left) b (y ∷ right) 1
+adds_first none made a x left b y right e alike change small =
+    adds_more none made a (x ∷ left) b (y ∷ right) 0 (adds_none none a (x ∷ left) b (y ∷ right) e) (omega arith) (omega (arith, alike)) change small
+
+pub adds_past_first : (none : List ℤ) (a x : ℤ) (left : List ℤ) (b y : ℤ) (right : List ℤ) → none ≡ [] → length left ≡ length right
+    → is_within ((x *ℤ a) +ℤ (y *ℤ b)) ≡ false → list_all is_within (combined_cells a (x ∷ left) b (y ∷ right)) ≡ false
+adds_past_first none a x left b y right e alike large =
+    adds_past none a (x ∷ left) b (y ∷ right) 0 (adds_none none a (x ∷ left) b (y ∷ right) e) (omega arith) (omega (arith, alike)) large

@@ -22,20 +22,20 @@ terms_equal ts us e =
     let y : Linear = record { terms = us; constant = pos 0 } in
     (Decides-same_form x y).1 (ap (λ vs. let z : Linear = record { terms = vs; constant = pos 0 } in z) e)
 
-either_false : (a b : Bool) → (a || b) ≡ false → (a ≡ false) × (b ≡ false)
+pub either_false : (a b : Bool) → (a || b) ≡ false → (a ≡ false) × (b ≡ false)
 either_false true b e = cc
 either_false false b e = (refl, e)
 
 -- ---- where none is equal
 
-placed-new : (rows : List Row) (r : Row) → list_any (λ s. same_terms s.terms r.terms) rows ≡ false → placed rows r ≡ rows ++ r ∷ []
+pub placed-new : (rows : List Row) (r : Row) → list_any (λ s. same_terms s.terms r.terms) rows ≡ false → placed rows r ≡ rows ++ r ∷ []
 unfolding placed
 placed-new [] r e = refl
 placed-new (s ∷ rows) r e =
     let parts = either_false (same_terms s.terms r.terms) (list_any (λ s. same_terms s.terms r.terms) rows) e in
     ap (λ b. cond b (lesser s r ∷ rows) (s ∷ placed rows r)) parts.0 ∙ ap (λ rs. s ∷ rs) (placed-new rows r parts.1)
 
-turned : (ts us : List Term) → same_terms ts us ≡ false → same_terms us ts ≡ false
+pub turned : (ts us : List Term) → same_terms ts us ≡ false → same_terms us ts ≡ false
 turned ts us e = go (same_terms us ts) refl
   where
     go : (b : Bool) → same_terms us ts ≡ b → b ≡ false
@@ -128,7 +128,7 @@ settle-holds : (rows : List Row) (r : Row) → holds r ≡ true → settle rows 
 unfolding settle
 settle-holds rows r e = ap (λ b. cond b rows (placed rows r)) e
 
-settle-placed : (rows : List Row) (r : Row) → holds r ≡ false → settle rows r ≡ placed rows r
+pub settle-placed : (rows : List Row) (r : Row) → holds r ≡ false → settle rows r ≡ placed rows r
 unfolding settle
 settle-placed rows r e = ap (λ b. cond b rows (placed rows r)) e
 

@@ -13,7 +13,7 @@ use Rattle.linear_solver.specs.Divisors.{gcd, divisor_from, divisor}
 use Rattle.linear_solver.proofs.Euclid.{gcd_is}
 
 -- it divides the number from which it begins
-divisor-start : (g : ℕ) (ts : List Term) → divisor_from g ts ∣ g
+pub divisor-start : (g : ℕ) (ts : List Term) → divisor_from g ts ∣ g
 unfolding divisor_from
 divisor-start g [] = dvd_refl g
 divisor-start g (t ∷ ts) = dvd_trans (divisor_from (gcd g (unsigned_abs t.coef)) ts) (divisor-start (gcd g (unsigned_abs t.coef)) ts) (gcd_is g (unsigned_abs t.coef)).0

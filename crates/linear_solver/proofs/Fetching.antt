@@ -1,6 +1,7 @@
 -- What is read of a workspace: coefficients, equal rows and constants; and a row that goes to its place.
 use Rattle.std.proofs.Common.{◌≡◌, ◌↔◌, ℕ, suc, ◌+◌, ◌<◌, ◌≤◌, ℤ, pos, IsTrue, Bool, true, false, ◌&&◌, ◌||◌, int_lt, int_le, List, [], ◌∷◌, ◌++◌, length, drop, set, get_or, refl, sym, ◌∙◌, ap, subst, arith}
-use Rattle.std.specs.List.{list_any}
+use Rattle.std.specs.List.{list_any, list_all}
+use Rattle.proof_lines.specs.Cells.{is_zero}
 use Rattle.std.proofs.lemmas.List.{drop_more, drop_all, get_or_default}
 use Rattle.xan_lin.specs.declared.term.Term.{Term}
 use Rattle.linear_solver.specs.declared.source.Source.{Source}
@@ -16,13 +17,9 @@ use Rattle.linear_solver.proofs.Distinct.{equal_terms, terms_equal, settles_none
 -- ---- coefficients
 
 pub coefficient_in : (vars read : List ℕ) (cells : List ℤ) (row : Row) (column : ℕ) → read ≡ vars → AreRising 0 read → column < length vars
-    → linear_in vars cells ≡ linear_of row → length cells ≡ length vars + 1
-    → get_or cells (column + 1) (pos 0) ≡ coefficient (get_or vars column 0) row.terms
-coefficient_in vars read [] row column same rising h linear wide = absurd (omega arith)
-coefficient_in vars read (c ∷ cells) row column same rising h linear wide =
-    let next : column + 1 ≡ suc column = omega arith in
-    ap (λ n. get_or (c ∷ cells) n (pos 0)) next
-    ∙ sparse-coefficient 0 vars cells column 0 (subst (λ (vs : List ℕ). AreRising 0 vs) same rising) h
+    → linear_in vars (row.constant ∷ cells) ≡ linear_of row → get_or cells column (pos 0) ≡ coefficient (get_or vars column 0) row.terms
+coefficient_in vars read cells row column same rising h linear =
+    sparse-coefficient 0 vars cells column 0 (subst (λ (vs : List ℕ). AreRising 0 vs) same rising) h
     ∙ ap (λ x. coefficient (get_or vars column 0) x.terms) linear
 
 -- ---- equal coefficients
@@ -35,18 +32,18 @@ tail-length : (xs : List ℤ) (n : ℕ) → length xs ≡ n + 1 → length (drop
 tail-length [] n e = absurd (omega arith)
 tail-length (x ∷ xs) n e = omega arith
 
-pub same_in : (vars read : List ℕ) (xs ys : List ℤ) (row : Row) (b : Bool) → read ≡ vars → AreRising 0 read → length xs ≡ length vars + 1 → length ys ≡ length vars + 1
-    → linear_in vars xs ≡ linear_of row → (IsTrue b ↔ (drop 1 xs ≡ drop 1 ys)) → b ≡ same_terms row.terms (linear_in vars ys).terms
+pub same_in : (vars read : List ℕ) (xs ys : List ℤ) (row : Row) (b : Bool) → read ≡ vars → AreRising 0 read → length xs ≡ length vars → length ys ≡ length vars + 1
+    → linear_in vars (row.constant ∷ xs) ≡ linear_of row → (IsTrue b ↔ (xs ≡ drop 1 ys)) → b ≡ same_terms row.terms (linear_in vars ys).terms
 same_in vars read xs ys row b same rising wide_x wide_y linear decides = go b decides (same_terms row.terms (linear_in vars ys).terms) refl
   where
-    of_row : row.terms ≡ sparse vars (drop 1 xs)
-    of_row = ap (λ x. x.terms) (sym linear) ∙ tails vars xs wide_x
+    of_row : row.terms ≡ sparse vars xs
+    of_row = ap (λ x. x.terms) (sym linear)
 
-    go : (b : Bool) → (IsTrue b ↔ (drop 1 xs ≡ drop 1 ys)) → (t : Bool) → same_terms row.terms (linear_in vars ys).terms ≡ t → b ≡ t
+    go : (b : Bool) → (IsTrue b ↔ (xs ≡ drop 1 ys)) → (t : Bool) → same_terms row.terms (linear_in vars ys).terms ≡ t → b ≡ t
     go true d t e =
         sym (terms_equal row.terms (linear_in vars ys).terms (of_row ∙ ap (sparse vars) (d.0 refl) ∙ sym (tails vars ys wide_y))) ∙ e
     go false d true e =
-        d.1 (sparse-equal 0 vars (drop 1 xs) (drop 1 ys) (subst (λ (vs : List ℕ). AreRising 0 vs) same rising) (tail-length xs (length vars) wide_x) (tail-length ys (length vars) wide_y)
+        d.1 (sparse-equal 0 vars xs (drop 1 ys) (subst (λ (vs : List ℕ). AreRising 0 vs) same rising) wide_x (tail-length ys (length vars) wide_y)
         (sym of_row ∙ equal_terms row.terms (linear_in vars ys).terms e ∙ tails vars ys wide_y))
     go false d false e = refl
 
@@ -89,13 +86,6 @@ set_settled w new r k b e f p d change =
     (ap (λ s. set w.made k (lesser s r)) (get_or_default w.made k no_row r p.0)
     ∙ settles_at w.made w.made (set w.made k (lesser (get_or w.made k r) r)) r r.terms k b e f refl refl p d refl)
 
--- a row tightened again
-pub again_is : (vars read : List ℕ) (cells copy made : List ℤ) (side : Side) (row : Row) (source : Source) → read ≡ vars → copy ≡ cells → linear_in vars cells ≡ linear_of row
-    → source ≡ row.source → row_in read made side ≡ tight source (linear_in read copy) → row_in vars made side ≡ tight row.source (linear_of row)
-again_is vars read cells copy made side row source same copied linear from is =
-    ap (λ vs. row_in vs made side) (sym same) ∙ is ∙ ap (λ s. tight s (linear_in read copy)) from ∙ ap (λ vs. tight row.source (linear_in vs copy)) same
-    ∙ ap (λ xs. tight row.source (linear_in vars xs)) copied ∙ ap (tight row.source) linear
-
 -- ---- a row that holds in any case
 
 pub holds_is : (vars : List ℕ) (cells : List ℤ) (s : Side) (c : ℤ) → length cells ≡ length vars + 1 → no_coefficients cells ≡ true → cells ≡ c ∷ drop 1 cells
@@ -110,14 +100,14 @@ holds_not vars cells s b wide is e =
 
 -- ---- a row that cannot hold
 
-pub refutes_is : (vars : List ℕ) (cells : List ℤ) (row : Row) (c : ℤ) → linear_in vars cells ≡ linear_of row → length cells ≡ length vars + 1 → no_coefficients cells ≡ true → cells ≡ c ∷ drop 1 cells
+pub refutes_is : (vars : List ℕ) (cells : List ℤ) (row : Row) (c : ℤ) → linear_in vars (row.constant ∷ cells) ≡ linear_of row → length cells ≡ length vars → list_all is_zero cells ≡ true → c ≡ row.constant
     → int_lt c (pos 0) ≡ cannot_hold row
-refutes_is vars cells row c linear wide none front =
-    ap (λ n. int_lt n (pos 0)) (constant_in vars cells c front)
-    ∙ ap (λ b. b && int_lt (linear_in vars cells).constant (pos 0)) (sym none ∙ linear-none vars cells wide)
+refutes_is vars cells row c linear wide none is =
+    ap (λ n. int_lt n (pos 0)) is
+    ∙ ap (λ b. b && int_lt row.constant (pos 0)) (sym none ∙ linear-none vars (row.constant ∷ cells) (omega (arith, wide)))
     ∙ ap (λ x. no_terms x.terms && int_lt x.constant (pos 0)) linear
 
-pub refutes_not : (vars : List ℕ) (cells : List ℤ) (row : Row) (b : Bool) → linear_in vars cells ≡ linear_of row → length cells ≡ length vars + 1 → b ≡ no_coefficients cells → b ≡ false
+pub refutes_not : (vars : List ℕ) (cells : List ℤ) (row : Row) (b : Bool) → linear_in vars (row.constant ∷ cells) ≡ linear_of row → length cells ≡ length vars → b ≡ list_all is_zero cells → b ≡ false
     → b ≡ cannot_hold row
 refutes_not vars cells row b linear wide is e =
-    e ∙ ap (λ t. t && int_lt row.constant (pos 0)) (sym e ∙ is ∙ linear-none vars cells wide ∙ ap (λ x. no_terms x.terms) linear)
+    e ∙ ap (λ t. t && int_lt row.constant (pos 0)) (sym e ∙ is ∙ linear-none vars (row.constant ∷ cells) (omega (arith, wide)) ∙ ap (λ x. no_terms x.terms) linear)

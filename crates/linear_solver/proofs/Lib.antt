@@ -4,6 +4,8 @@ pub mod Sums
 pub mod Sparse
 pub mod Adding
 pub mod Risen
+pub mod Reducible
+pub mod Stores
 pub mod Regions
 pub mod Placing
 pub mod Fetching
@@ -15,6 +17,7 @@ pub mod Givings
 pub mod WholeAnswers
 pub mod Distinct
 pub mod Dividing
+pub mod Lowest
 pub mod Tightening
 pub mod Reaching
 pub mod Rounding

@@ -37,7 +37,7 @@ settle-more rows r = go (holds r) (placed-more rows r)
     go true h = omega arith
     go false h = h
 
-reduced-more : (made rows : List Row) → length (reduced_onto made rows) ≤ length made + length rows
+pub reduced-more : (made rows : List Row) → length (reduced_onto made rows) ≤ length made + length rows
 unfolding reduced_onto
 reduced-more made [] = omega arith
 reduced-more made (r ∷ rows) =

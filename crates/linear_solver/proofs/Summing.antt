@@ -1,5 +1,5 @@
 -- The sum of two rows in cells.
-use Rattle.std.proofs.Common.{◌≡◌, ℕ, ◌+◌, ◌<◌, ◌^◌, unsigned_abs, ℤ, true, false, List, ◌∷◌, length, Some, sym, ◌∙◌, ap, subst, arith}
+use Rattle.std.proofs.Common.{◌≡◌, ℕ, ◌+◌, ◌<◌, ◌^◌, unsigned_abs, nat_lt, ℤ, true, false, List, ◌∷◌, length, Some, sym, ◌∙◌, ap, subst, arith}
 use Rattle.std.specs.List.{list_all}
 use Rattle.xan_lin.specs.Linear.{Linear, is_within, all_within, are_within}
 use Rattle.xan_lin.specs.Terms.{IsRising}
@@ -11,6 +11,7 @@ use Rattle.linear_solver.specs.declared.step.Step.TheVariants as step
 use Rattle.linear_solver.specs.declared.source.Source.{Source}
 use Rattle.linear_solver.specs.declared.source.Source.TheVariants.{New}
 use Rattle.linear_solver.specs.declared.tight.NewRow.{NewRow}
+use Rattle.linear_solver.specs.Divisors.{divisor}
 use Rattle.linear_solver.specs.Systems.{Row, linear_of, line_of, first_by, second_by, sum_of_two, sum_source, tight, coefficient}
 use Rattle.linear_solver.specs.Region.{AreRising, linear_in, row_in, spread_cells, IsSummed}
 use Rattle.linear_solver.proofs.Sparse.{linear-combined, linear-within, length-combined, linear-spread, length-spread}
@@ -51,17 +52,18 @@ module _ (vars : List ℕ) (left right : List ℤ) (f s : ℤ) (a b : ℕ) (p n 
 
   pub sums : (cells : List ℤ) (row : NewRow) (source : Source) → cells ≡ combined_cells f left s right → list_all is_within cells ≡ true → source ≡ sum_source a b p n
       → row_in vars row.cells.items row.side ≡ tight source (linear_in vars cells) → length row.cells.items ≡ length vars + 1 → all_within (linear_in vars row.cells.items).terms ≡ true
-      → IsSummed vars (Some row) a b p n
-  sums cells row source is e from row_is wide row_small = (
+      → nat_lt 1 (divisor (linear_in vars row.cells.items).terms) ≡ false → IsSummed vars (Some row) a b p n
+  sums cells row source is e from row_is wide row_small row_tight = (
     sym sum-within ∙ sym (ap (list_all is_within) is) ∙ e,
     row_is ∙ ap (λ t. tight t (linear_in vars cells)) from ∙ ap (tight (sum_source a b p n)) (ap (linear_in vars) is ∙ sum-is),
     wide,
     row_small,
+    row_tight,
   )
 
-pub size_small : (vars : List ℕ) (cells : List ℤ) (row : Row) (v : ℕ) → linear_in vars cells ≡ linear_of row → all_within (linear_in vars cells).terms ≡ true
+pub size_small : (row : Row) (v : ℕ) → all_within row.terms ≡ true
     → unsigned_abs (coefficient v row.terms) < 2 ^ 62
-size_small vars cells row v is small = coefficient-small v row.terms (ap (λ x. all_within x.terms) (sym is) ∙ small)
+size_small row v small = coefficient-small v row.terms small
 
 -- ---- the row of a form
 
@@ -92,8 +94,8 @@ pair_of vars read left right f s a b c d p n same rising l r wide_l wide_r first
 pub sums_as : (vars read : List ℕ) (left right : List ℤ) (f s f' s' : ℤ) (a b l r : ℕ) (p n : Row) (cells : List ℤ) (row : NewRow) → Pair vars left right f s a b p n → read ≡ vars
     → cells ≡ combined_cells f left s right → list_all is_within cells ≡ true → f' ≡ f → s' ≡ s → l ≡ line_of p.source → r ≡ line_of n.source
     → row_in read row.cells.items row.side ≡ tight (New (step.Comb f' l s' r)) (linear_in read cells) → length row.cells.items ≡ length read + 1
-    → all_within (linear_in read row.cells.items).terms ≡ true → IsSummed vars (Some row) a b p n
-sums_as vars read left right f s f' s' a b l r p n cells row m same is e first second left_line right_line row_is wide small_row =
+    → all_within (linear_in read row.cells.items).terms ≡ true → nat_lt 1 (divisor (linear_in read row.cells.items).terms) ≡ false → IsSummed vars (Some row) a b p n
+sums_as vars read left right f s f' s' a b l r p n cells row m same is e first second left_line right_line row_is wide small_row tight_row =
     let from : (let t : Source = New (step.Comb f' l s' r) in t) ≡ sum_source a b p n =
     ap (λ k. let t : Source = New (step.Comb k l s' r) in t) (first ∙ m.first)
     ∙ ap (λ k. let t : Source = New (step.Comb (first_by a b) k s' r) in t) left_line
@@ -103,3 +105,4 @@ sums_as vars read left right f s f' s' a b l r p n cells row m same is e first s
     (subst (λ (vs : List ℕ). row_in vs row.cells.items row.side ≡ tight (New (step.Comb f' l s' r)) (linear_in vs cells)) same row_is)
     (wide ∙ ap (λ vs. length vs + 1) same)
     (subst (λ (vs : List ℕ). all_within (linear_in vs row.cells.items).terms ≡ true) same small_row)
+    (subst (λ (vs : List ℕ). nat_lt 1 (divisor (linear_in vs row.cells.items).terms) ≡ false) same tight_row)

@@ -16,6 +16,7 @@ use Rattle.linear_solver.specs.Systems.{row_of, divided_by, tight}
 use Rattle.linear_solver.specs.Region.{AreRising, sparse, linear_in}
 use Rattle.linear_solver.specs.declared.source.Source.{Source}
 use Rattle.linear_solver.proofs.Dividing.{divisor-divides}
+use Rattle.linear_solver.proofs.Lowest.{lowest}
 use Rattle.linear_solver.proofs.Sparse.{sparse-divided, linear-rising}
 
 pub not_one : (n : ℤ) → int_le n (pos 1) ≡ false → pos 1 <ℤ n
@@ -70,6 +71,7 @@ linear-divided vars (c ∷ cells) e h =
 pub record IsDivided (vars : List ℕ) (made : List ℤ) (source : Source) (by : ℤ) (x : Linear) : Type 0 where
   pub row : row_of source by (linear_in vars made) ≡ tight source x
   pub small : all_within (linear_in vars made).terms ≡ true
+  pub lowest : nat_lt 1 (divisor (linear_in vars made).terms) ≡ false
 
 pub gets_tight : (vars : List ℕ) (cells made : List ℤ) (source : Source) (by same : ℤ) → length cells ≡ length vars + 1 → AreRising 0 vars
     → by ≡ pos (divisor (linear_in vars cells).terms) → same ≡ by → pos 1 <ℤ same → all_within (linear_in vars cells).terms ≡ true
@@ -85,4 +87,14 @@ gets_tight vars cells made source by same wide rising e s high small made_is =
       row = ap (λ n. row_of source n (linear_in vars made)) all ∙ ap (λ x. row_of source (pos d) x) linear ∙ divided-whole d source (linear_in vars cells) big.0;
       small = ap (λ x. all_within x.terms) linear
           ∙ (divided_terms (linear_in vars cells).terms (pos d) refl (subst (λ (n : ℤ). pos 1 <ℤ n) all high) (linear-rising vars cells rising) small).1;
+      lowest = ap (λ x. nat_lt 1 (divisor x.terms)) linear ∙ lowest (linear_in vars cells).terms (less 1 d big.0);
     }
+
+-- what is not divided has no common divisor
+pub not_above : (vars : List ℕ) (cells : List ℤ) (by same : ℤ) → by ≡ pos (divisor (linear_in vars cells).terms) → same ≡ by → int_le same (pos 1) ≡ true
+    → nat_lt 1 (divisor (linear_in vars cells).terms) ≡ false
+not_above vars cells by same e s low = go (nat_lt 1 (divisor (linear_in vars cells).terms)) refl
+  where
+    go : (b : Bool) → nat_lt 1 (divisor (linear_in vars cells).terms) ≡ b → b ≡ false
+    go true f = absurd (both_ways (divisor (linear_in vars cells).terms) (ap (λ n. int_le n (pos 1)) (sym e ∙ sym s) ∙ low) f)
+    go false f = refl

@@ -1,20 +1,23 @@
 -- How the rows of systems lie in a region of cells: the constant, and then a coefficient for each variable, by rising variable.
-use Rattle.std.specs.Prelude.{◌≡◌, ℕ, suc, ◌+◌, ◌<◌, ◌≤◌, ℤ, pos, Bool, true, false, Option, Some, None, List, [], ◌∷◌, ◌++◌, length, take, drop, vec_capacity, unsigned_abs, nat_lt, if◌then◌else◌}
-use Rattle.std.specs.List.{list_all}
+use Rattle.std.specs.Prelude.{◌≡◌, ℕ, suc, ◌+◌, ◌<◌, ◌≤◌, ℤ, pos, Bool, true, false, ◌&&◌, int_le, Option, Some, None, List, [], ◌∷◌, ◌++◌, length, take, drop, slice_set, vec_capacity, unsigned_abs, nat_lt, if◌then◌else◌}
+use Rattle.std.specs.List.{list_all, slice_index_or}
+use Rattle.std.specs.Ordering.{int_eq}
+use Rattle.index_sorts.specs.Known.{no_terms}
 use Rattle.xan_lin.specs.Terms.{with_multiple}
 use Rattle.xan_lin.specs.Linear.{Linear, all_within, are_within}
 use Rattle.xan_lin.specs.declared.term.Term.{Term}
 use Rattle.xan_pool.specs.Pool.{Pool}
 use Rattle.proof_lines.specs.Cells.{is_zero, are_among}
 use Rattle.linear_solver.specs.declared.side.Side.{Side}
+use Rattle.linear_solver.specs.declared.side.Stored.{Stored}
 use Rattle.linear_solver.specs.declared.source.Source.TheVariants.{Line}
 use Rattle.linear_solver.specs.declared.workspace.Workspace.TheInside.{Inside}
 use Rattle.linear_solver.specs.declared.tight.NewRow.{NewRow}
-use Rattle.linear_solver.specs.Systems.{Row, row_of, tight, sum_of_two, sum_source}
+use Rattle.linear_solver.specs.Systems.{Row, row_of, linear_of, tight, sum_of_two, sum_source}
 use Rattle.linear_solver.specs.Merging.{front_coefficient, behind}
 use Rattle.linear_solver.specs.Elimination.{bears}
 use Rattle.linear_solver.specs.declared.step.Step.{Step}
-use Rattle.linear_solver.specs.Divisors.{gcd}
+use Rattle.linear_solver.specs.Divisors.{gcd, divisor}
 use Rattle.linear_solver.specs.Numbering.{steps_with, line_with}
 use Rattle.linear_solver.specs.Reducing.{AreDistinct}
 
@@ -59,11 +62,16 @@ unfoldable pub spread_cells : List ℕ → List Term → List ℤ
 spread_cells [] ts = []
 spread_cells (v ∷ vars) ts = front_coefficient v ts ∷ spread_cells vars (behind v ts)
 
--- the rows of the first cells, as many as there are sides
-unfoldable pub rows_in : List ℕ → List (List ℤ) → List Side → List Row
-rows_in vars rows [] = []
-rows_in vars [] (s ∷ sides) = []
-rows_in vars (cells ∷ rows) (s ∷ sides) = row_in vars cells s ∷ rows_in vars rows sides
+-- what stands in the cells of a row of a system: the cells from 1 on of its row of the pool, behind its constant
+abbrev pub cells_of : List (List ℤ) → Stored → List ℤ
+cells_of rows s = s.constant ∷ drop 1 (slice_index_or rows s.place [])
+
+abbrev pub stored_row : List ℕ → List (List ℤ) → Stored → Row
+stored_row vars rows s = row_in vars (cells_of rows s) s.side
+
+unfoldable pub rows_of : List ℕ → List (List ℤ) → List Stored → List Row
+rows_of vars rows [] = []
+rows_of vars rows (s ∷ sides) = stored_row vars rows s ∷ rows_of vars rows sides
 
 -- where there is none
 abbrev pub no_row : Row
@@ -85,18 +93,42 @@ cells_divisor (c ∷ cells) = numbers_divisor 0 cells
 
 -- ---- numbering
 
-abbrev pub side_at : ℕ → Side
-side_at line = record { source = Line line; by = pos 1 }
+-- the row of a system that this step gives
+abbrev pub stored_at : ℕ → Stored → Stored
+stored_at line s = record { side = record { source = Line line; by = pos 1 }; constant = s.constant; place = s.place }
 
--- what is kept beside the rows of a system, and all steps so far
+-- the rows of a system, and all steps so far
 pub record NumberedSides : Type 0 where
   pub steps : List Step
-  pub sides : List Side
+  pub sides : List Stored
 
 -- each row in order gets its steps, behind rows that have theirs
-unfoldable pub numbered_sides : List Step → List Side → List Side → NumberedSides
+unfoldable pub numbered_sides : List Step → List Stored → List Stored → NumberedSides
 numbered_sides steps done [] = record { steps = steps; sides = done }
-numbered_sides steps done (s ∷ sides) = numbered_sides (steps_with steps s.source s.by) (done ++ side_at (line_with steps s.source s.by) ∷ []) sides
+numbered_sides steps done (s ∷ sides) =
+    numbered_sides (steps_with steps s.side.source s.side.by) (done ++ stored_at (line_with steps s.side.source s.side.by) s ∷ []) sides
+
+-- ---- the rows without a variable
+
+-- the coefficient in this column is 0
+abbrev pub has_none : List (List ℤ) → ℕ → Stored → Bool
+has_none rows column s = int_eq (slice_index_or (drop 1 (slice_index_or rows s.place [])) column (pos 0)) (pos 0)
+
+unfoldable pub without : List (List ℤ) → ℕ → List Stored → List Stored
+without rows column [] = []
+without rows column (s ∷ sides) = if has_none rows column s then s ∷ without rows column sides else without rows column sides
+
+-- ---- rows that move together
+
+-- the rows at this place and those behind it
+unfoldable pub placed_from : ℕ → List Stored → List Stored
+placed_from next [] = []
+placed_from next (s ∷ sides) = record { side = s.side; constant = s.constant; place = next } ∷ placed_from (suc next) sides
+
+-- the pool, where each is written to its new place in order
+unfoldable pub moved : ℕ → List (List ℤ) → List Stored → List (List ℤ)
+moved next rows [] = rows
+moved next rows (s ∷ sides) = moved (suc next) (slice_set rows next (slice_index_or rows s.place [])) sides
 
 -- ---- what an elimination works on
 
@@ -114,30 +146,52 @@ empty_pool = record { rows = []; width = 65; capacity = 0 }
 abbrev pub idle : Work
 idle = record { pool = empty_pool; vars = []; rows = []; made = [] }
 
--- the rows lie behind those of others, and those in the making behind them
-abbrev pub work_at : Pool → ℕ → List ℕ → List Side → List Side → Work
+-- the rows lie behind those of others
+abbrev pub work_at : Pool → ℕ → List ℕ → List Stored → List Stored → Work
 work_at pool base vars rows made = record {
   pool = record pool { rows = take base pool.rows };
   vars = vars;
-  rows = rows_in vars (drop base pool.rows) rows;
-  made = rows_in vars (drop (base + length rows) pool.rows) made;
+  rows = rows_of vars pool.rows rows;
+  made = rows_of vars pool.rows made;
 }
 
 abbrev pub work_of : Inside → Work
 work_of w = work_at w.pool w.base w.vars.items w.rows.items w.made.items
 
-abbrev pub are_small : List Row → Bool
-are_small rows = list_all (λ r. all_within r.terms) rows
+-- its numbers are small, it is tight, and it does not hold in any case
+pub record IsSettled (x : Linear) : Type 0 where
+  pub small : all_within x.terms ≡ true
+  pub tight : nat_lt 1 (divisor x.terms) ≡ false
+  pub told : (no_terms x.terms && int_le (pos 0) x.constant) ≡ false
+
+abbrev pub AreSettled : List Row → Type 0
+AreSettled [] = Unit {0}
+AreSettled (r ∷ rows) = IsSettled (linear_of r) × AreSettled rows
+
+-- they lie in this part of the pool, one behind another
+abbrev pub AreIn : ℕ → ℕ → List Stored → Type 0
+AreIn low high [] = low ≤ high
+AreIn low high (s ∷ sides) = (low ≤ s.place) × AreIn (suc s.place) high sides
+
+-- steps give them as they are
+abbrev pub AreLines : List Row → Type 0
+AreLines [] = Unit {0}
+AreLines (r ∷ rows) = (r.by ≡ pos 1) × AreLines rows
 
 -- so they lie in the pool
-pub record Lies (pool : Pool) (base : ℕ) (vars : List ℕ) (rows made : List Side) : Type 0 where
+pub record Lies (pool : Pool) (base : ℕ) (vars : List ℕ) (rows made : List Stored) : Type 0 where
   pub width : pool.width ≡ 65
-  pub count : base + length rows + length made ≡ length pool.rows
+  pub within : length pool.rows ≤ pool.capacity
+  pub count : length pool.rows ≤ base + 2000 + length made
   pub rising : AreRising 0 vars
   pub few : length vars ≤ 64
-  pub small_rows : are_small (work_at pool base vars rows made).rows ≡ true
-  pub small_made : are_small (work_at pool base vars rows made).made ≡ true
-  pub distinct : AreDistinct (work_at pool base vars rows made).made
+  pub in_rows : AreIn base (length pool.rows) rows
+  pub in_made : AreIn base (length pool.rows) made
+  pub settled_rows : AreSettled (rows_of vars pool.rows rows)
+  pub settled_made : AreSettled (rows_of vars pool.rows made)
+  pub distinct_rows : AreDistinct (rows_of vars pool.rows rows)
+  pub distinct_made : AreDistinct (rows_of vars pool.rows made)
+  pub lines : AreLines (rows_of vars pool.rows rows)
 
 pub record IsWork (w : Inside) : Type 0 where
   pub lies : Lies w.pool w.base w.vars.items w.rows.items w.made.items
@@ -161,3 +215,4 @@ IsSummed vars (Some r) a b p n = (are_within (sum_of_two a b p n).terms (sum_of_
     × (row_in vars r.cells.items r.side ≡ tight (sum_source a b p n) (sum_of_two a b p n))
     × (length r.cells.items ≡ length vars + 1)
     × (all_within (linear_in vars r.cells.items).terms ≡ true)
+    × (nat_lt 1 (divisor (linear_in vars r.cells.items).terms) ≡ false)

@@ -19,16 +19,26 @@ pub(crate) const WIDTH: usize = 65;
 /// The cells of a row that are in use.
 pub(crate) type Cells = ArrayVec<i64, 65>;
 
-/// The sum of two rows of as many cells, each times a multiplier, where all its numbers are within the bound of forms.
-pub(crate) fn combined(left: &[i64], right: &[i64], by: &Multipliers) -> Option<Cells>
-    requires few { length left.now ≤ 65 }
+/// The sum of two rows of as many coefficients, each times a multiplier, where all its numbers are within the bound of forms. The constants
+/// come first.
+pub(crate) fn combined(
+    left_constant: &i64,
+    left: &[i64],
+    right_constant: &i64,
+    right: &[i64],
+    by: &Multipliers,
+) -> Option<Cells>
+    requires few { length left.now ≤ 64 }
     requires alike { length left.now ≡ length right.now }
     requires first { unsigned_abs by.now.first < 2 ^ 63 }
     requires second { unsigned_abs by.now.second < 2 ^ 63 }
-    ensures { MatchOption result (list_all is_within (combined_cells by.now.first left.now by.now.second right.now) ≡ false)
-        (λ cells. (cells.items ≡ combined_cells by.now.first left.now by.now.second right.now) × (list_all is_within cells.items ≡ true)) }
+    ensures { MatchOption result (list_all is_within (combined_cells by.now.first (left_constant.now ∷ left.now) by.now.second (right_constant.now ∷ right.now)) ≡ false)
+        (λ cells. (cells.items ≡ combined_cells by.now.first (left_constant.now ∷ left.now) by.now.second (right_constant.now ∷ right.now)) × (list_all is_within cells.items ≡ true)) }
 {
     let mut cells = ArrayVec::new();
+    let Some(()) = put_sum(left_constant, right_constant, by, &mut cells) else {
+        return None;
+    };
     'cells: for place in 0..left.len() {
         let Some(()) = put_sum(&left[place], &right[place], by, &mut cells) else {
             return None;
@@ -64,18 +74,6 @@ pub(crate) fn divided(cells: &[i64], by: &i64) -> Cells
     made
 }
 
-/// The same cells.
-pub(crate) fn copied(cells: &[i64]) -> Cells
-    requires { length cells.now ≤ 65 }
-    ensures { result.items ≡ cells.now }
-{
-    let mut made = ArrayVec::new();
-    let Ok(()) = made.try_extend_from_slice(cells) else {
-        unreachable!()
-    };
-    made
-}
-
 /// The cells as a row of the pool, which has 65.
 pub(crate) fn padded(cells: &[i64]) -> [i64; 65]
     requires { length cells.now ≤ 65 }
@@ -96,8 +94,8 @@ pub(crate) fn has_no_coefficient(cells: &[i64]) -> bool
     are_zero(coefficients)
 }
 
-// Whether all these numbers are 0.
-fn are_zero(numbers: &[i64]) -> bool
+/// Whether all these numbers are 0.
+pub(crate) fn are_zero(numbers: &[i64]) -> bool
     ensures { result ≡ list_all is_zero numbers.now }
 {
     numbers.iter().all(|number| *number == 0)

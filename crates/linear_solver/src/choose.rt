@@ -6,7 +6,7 @@ ghost use Rattle.linear_solver.specs.Systems.{with_sign};
 ghost use Rattle.linear_solver.specs.declared.source.Sign.TheVariants.{Positive, Negative};
 ghost use Rattle.linear_solver.specs.Region.{no_row};
 
-use crate::cells::{constant_of, has_no_coefficient};
+use crate::cells::are_zero;
 use crate::source::Look;
 use crate::workspace::Workspace;
 
@@ -55,8 +55,7 @@ fn cannot_hold(work: &Workspace, at: usize) -> bool
     requires { at < length work.now.rows }
     ensures { result ≡ cannot_hold (slice_index_or work.now.rows at no_row) }
 {
-    let cells = work.cells(at);
-    has_no_coefficient(cells) && *constant_of(cells) < 0
+    are_zero(work.coefficients(at)) && *work.constant(at) < 0
 }
 
 // The choice of a variable that so many rows have, and 0 rows do not.

@@ -1,11 +1,12 @@
 //! The first system.
-ghost use Rattle.std.specs.Prelude.{◌≡◌, ◌≤◌, ◌+◌, ◌++◌, ◌<◌, [], ◌∷◌, length, IsTrue, pos, true, if◌then◌else◌};
+ghost use Rattle.std.specs.Prelude.{◌≡◌, ◌≤◌, ◌+◌, ◌++◌, ◌<◌, [], ◌∷◌, length, IsTrue, pos, nat_lt, true, false, if◌then◌else◌};
 ghost use Rattle.xan_lin.specs.Linear.{all_within};
 ghost use Rattle.xan_lin.specs.Terms.{IsRising};
 ghost use Rattle.proof_lines.specs.Cells.{are_among};
 ghost use Rattle.linear_solver.specs.declared.step.Step.TheVariants.{Hyp};
 ghost use Rattle.linear_solver.specs.declared.source.Source.TheVariants.{New};
 ghost use Rattle.linear_solver.specs.Systems.{tight, settle};
+ghost use Rattle.linear_solver.specs.Divisors.{divisor};
 ghost use Rattle.linear_solver.specs.Elimination.{bears, with_hyps, first_rows};
 ghost use Rattle.linear_solver.specs.Region.{AreRising, AreClosed, HasRoom, linear_in, row_in, spread_cells};
 ghost use Rattle.linear_solver.specs.Merging.{front_coefficient, behind};
@@ -80,6 +81,7 @@ fn row_of(vars: &[u32], form: &Form, source: Source) -> NewRow
     ensures row { row_in vars.now result.cells.items result.side ≡ tight source form.now }
     ensures wide { length result.cells.items ≡ length vars.now + 1 }
     ensures small { IsTrue (all_within (linear_in vars.now result.cells.items).terms) }
+    ensures divided { nat_lt 1 (divisor (linear_in vars.now result.cells.items).terms) ≡ false }
 {
     let cells = spread(vars, form.terms(), &form.constant_part());
     tight(vars, cells, source)

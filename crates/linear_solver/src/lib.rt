@@ -18,6 +18,7 @@ mod line_buf;
 mod next;
 mod numbering;
 mod numbers;
+mod places;
 mod rounds;
 mod side;
 mod solver;

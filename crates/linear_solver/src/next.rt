@@ -20,41 +20,12 @@ use xan_lin::LimitKind;
 #[tactic(auto, unfolding(crate::specs::Systems::next_rows))]
 pub(crate) fn next_rows(column: usize, work: &mut Workspace) -> Result<(), LimitKind>
     requires ready { IsOpen column work.old }
+    requires none { work.old.made ≡ [] }
     ensures made { Gives result work.new.made (next_rows (slice_index_or work.old.vars column 0) work.old.rows) }
     ensures kept { work.new ≡ record work.old { made = work.new.made } }
 {
-    work.clear_made();
-    reduce_onto(column, work);
+    work.keep_without(column);
     with_all_sums(column, work)
-}
-
-// Puts the rows without the variable to reduced ones, each tightened.
-#[tactic(auto, unfolding(crate::specs::Systems::reduced_onto, crate::specs::Systems::with_sign))]
-fn reduce_onto(column: usize, work: &mut Workspace)
-    requires ready { IsOpen column work.old }
-    requires none { work.old.made ≡ [] }
-    ensures made { work.new ≡ record work.old { made = reduced_onto [] (with_sign Zero (slice_index_or work.old.vars column 0) work.old.rows) } }
-    ensures few { length work.new.made ≤ 2000 }
-{
-    'rows: for at in 0..work.count() {
-        reduce_one(column, at, work);
-    }
-}
-
-// Puts a row to reduced ones, tightened, where it is without the variable.
-fn reduce_one(column: usize, at: usize, work: &mut Workspace)
-    requires ready { IsOpen column work.old }
-    requires few { length work.old.made ≤ 2000 }
-    requires live { at < length work.old.rows }
-    ensures { work.new ≡ record work.old {
-      made = (if has_sign Zero (slice_index_or work.old.vars column 0) (slice_index_or work.old.rows at no_row)
-          then settle work.old.made (tight (slice_index_or work.old.rows at no_row).source (linear_of (slice_index_or work.old.rows at no_row))) else work.old.made);
-    } }
-{
-    if has_sign(Sign::Zero, column, at, work) {
-        let row = work.again(at);
-        work.settle(&row);
-    }
 }
 
 // Puts the sums of each positive row and each negative one to reduced rows.
@@ -185,7 +156,13 @@ fn summed(column: usize, positive: usize, negative: usize, work: &Workspace) -> 
 {
     let vars = work.vars();
     let by = multipliers_for(size(column, positive, work), size(column, negative, work));
-    let Some(cells) = combined(work.cells(positive), work.cells(negative), &by) else {
+    let Some(cells) = combined(
+        work.constant(positive),
+        work.coefficients(positive),
+        work.constant(negative),
+        work.coefficients(negative),
+        &by,
+    ) else {
         return None;
     };
     let step = Step::Comb {
@@ -204,7 +181,7 @@ fn size(column: usize, at: usize, work: &Workspace) -> u64
     ensures exact { result ≡ size (slice_index_or work.now.vars column 0) (slice_index_or work.now.rows at no_row) }
     ensures small { result < 2 ^ 62 }
 {
-    let _cells = work.cells(at);
+    let _cells = work.coefficients(at);
     work.coefficient(at, column).unsigned_abs()
 }
 

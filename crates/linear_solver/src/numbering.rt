@@ -1,16 +1,17 @@
 //! How the rows of a reduced system get their steps.
 ghost use Rattle.std.specs.Prelude.{◌≡◌, ◌+◌, ◌*◌, ◌<◌, ◌≤◌, [], ◌∷◌, ◌++◌, length, vec_capacity};
 ghost use Rattle.linear_solver.specs.Numbering.{with_source, source_line, with_cut, cut_line, steps_with, line_with};
-ghost use Rattle.linear_solver.specs.Region.{numbered_sides, side_at};
+ghost use Rattle.linear_solver.specs.Region.{numbered_sides, stored_at};
 
-use crate::side::Side;
+use crate::places::put_stored;
+use crate::side::{Side, Stored};
 use crate::source::Source;
 use crate::step::Step;
 use crate::steps::Steps;
 
-/// What is kept beside rows that steps give: each row in order gets its steps, for which there is room.
+/// The rows as steps give them: each in order gets its steps, for which there is room.
 #[tactic(auto, unfolding(crate::specs::Region::numbered_sides))]
-pub(crate) fn number(made: &[Side], done: &mut Vec<Side>, steps: &mut Steps)
+pub(crate) fn number(made: &[Stored], done: &mut Vec<Stored>, steps: &mut Steps)
     requires none { done.old.items ≡ [] }
     requires room { length made.now ≤ vec_capacity done.old }
     requires few { length steps.old + 2 * length made.now ≤ 257026 }
@@ -19,23 +20,23 @@ pub(crate) fn number(made: &[Side], done: &mut Vec<Side>, steps: &mut Steps)
     ensures capacity { vec_capacity done.old ≤ vec_capacity done.new }
 {
     let mut rest = made;
-    'rows: while let [side, later @ ..] = rest {
-        let line = put_steps(steps, side.source, &side.by);
-        put_side(done, line);
+    'rows: while let [row, later @ ..] = rest {
+        let line = put_steps(steps, row.side.source, &row.side.by);
+        put_stored(done, &stored_at(line, row));
         rest = later;
     }
 }
 
-// Puts what is kept beside the row that a step gives.
-fn put_side(done: &mut Vec<Side>, line: u32)
-    requires { length done.old.items < vec_capacity done.old }
-    ensures items { done.new.items ≡ done.old.items ++ side_at line ∷ [] }
-    ensures capacity { vec_capacity done.old ≤ vec_capacity done.new }
+// The row that a step gives.
+fn stored_at(line: u32, row: &Stored) -> Stored
+    ensures { result ≡ stored_at line row.now }
 {
     let source = Source::Line(line);
-    let Ok(()) = done.push(Side { source, by: 1 }) else {
-        unreachable!()
-    };
+    Stored {
+        side: Side { source, by: 1 },
+        constant: row.constant,
+        place: row.place,
+    }
 }
 
 // Puts the steps of a row, and answers the number of the one that gives it.

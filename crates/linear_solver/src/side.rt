@@ -1,4 +1,4 @@
-//! What is kept beside the cells of a row.
+//! What is kept beside the coefficients of a row.
 use crate::source::Source;
 
 /// What is kept beside the cells of a row: where it comes from, and what it was divided by since then, which is 1 where it was not.
@@ -6,4 +6,12 @@ use crate::source::Source;
 pub(crate) struct Side {
     pub(crate) source: Source,
     pub(crate) by: i64,
+}
+
+/// A row of a system: what is kept beside its cells, its constant, and the place of its coefficients in the pool.
+#[derive(Clone, Copy, Drop)]
+pub(crate) struct Stored {
+    pub(crate) side: Side,
+    pub(crate) constant: i64,
+    pub(crate) place: usize,
 }

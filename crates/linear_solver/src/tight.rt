@@ -1,5 +1,5 @@
 //! Rows in the making.
-ghost use Rattle.std.specs.Prelude.{◌≡◌, ◌+◌, ◌^◌, ◌<◌, List, ℕ, length, IsTrue, pos};
+ghost use Rattle.std.specs.Prelude.{◌≡◌, ◌+◌, ◌^◌, ◌<◌, List, ℕ, length, IsTrue, pos, nat_lt, false};
 ghost use Rattle.xan_lin.specs.Linear.{all_within};
 ghost use Rattle.linear_solver.specs.Systems.{tight, holds};
 ghost use Rattle.linear_solver.specs.Divisors.{divisor};
@@ -35,6 +35,7 @@ pub(crate) fn tight(vars: &[u32], cells: Cells, source: Source) -> NewRow
     ensures row { row_in vars.now result.cells.items result.side ≡ tight source (linear_in vars.now cells.items) }
     ensures wide { length result.cells.items ≡ length vars.now + 1 }
     ensures small { IsTrue (all_within (linear_in vars.now result.cells.items).terms) }
+    ensures divided { nat_lt 1 (divisor (linear_in vars.now result.cells.items).terms) ≡ false }
 {
     let by = signed_divisor(vars, cells.as_slice());
     if by <= 1 {

@@ -1,27 +1,31 @@
 //! The room in which the systems of an elimination lie.
-ghost use Rattle.std.specs.Prelude.{◌≡◌, ◌+◌, ◌*◌, ◌<◌, ◌≤◌, [], ◌∷◌, ◌++◌, length, take, drop, slice_set, IsTrue, IfOk, MatchOption, int_lt, Some, true, false, option_map, slice_get, vec_len, vec_capacity};
+ghost use Rattle.std.specs.Prelude.{◌≡◌, ◌+◌, ◌*◌, ◌<◌, ◌≤◌, [], ◌∷◌, ◌++◌, length, take, drop, slice_set, IsTrue, IfOk, MatchOption, int_lt, nat_lt, true, false};
 ghost use Rattle.std.specs.List.{list_any, slice_index_or};
 ghost use Rattle.xan_lin.specs.Linear.{all_within};
 ghost use Rattle.proof_lines.specs.Cells.{AreDifferent};
-ghost use Rattle.linear_solver.specs.Systems.{linear_of, line_of, same_terms, coefficient, settle, lesser, tight};
+ghost use Rattle.linear_solver.specs.Systems.{linear_of, line_of, same_terms, coefficient, settle, lesser, reduced_onto, with_sign};
+ghost use Rattle.linear_solver.specs.Divisors.{divisor};
+ghost use Rattle.linear_solver.specs.declared.source.Sign.TheVariants.{Zero};
 ghost use Rattle.linear_solver.specs.Numbering.{numbered};
 ghost use Rattle.linear_solver.specs.Reducing.{IsPlace, AreDistinct};
-ghost use Rattle.linear_solver.specs.Region.{AreRising, risen, linear_in, row_in, no_row, idle, HasRoom};
+ghost use Rattle.linear_solver.specs.Region.{AreRising, risen, linear_in, row_in, no_row, idle, HasRoom, IsSettled};
 
-use crate::cells::{Cells, WIDTH, are_same, coefficients, constant_of, copied, padded};
+use crate::cells::{Cells, WIDTH, are_same, coefficients, constant_of, padded};
+use crate::choose::MOST_ROWS;
 use crate::hash::hash;
 use crate::numbering::number;
-use crate::side::Side;
+use crate::places::{coefficients_of, gather, keep, put_stored};
+use crate::side::Stored;
 use crate::source::Source;
 use crate::steps::Steps;
-use crate::tight::{NewRow, tight};
+use crate::tight::NewRow;
 use crate::variables::put_risen;
 use arrayvec::ArrayVec;
 use std::alloc::Global;
 use std::marker::Model;
 use std::mem;
 use xan_lin::Memory;
-use xan_pool::{Mark, RowId, RowPool};
+use xan_pool::{Mark, RowPool};
 
 // How many rows a system in the making may come to have: one past the limit.
 const MOST_MADE: usize = 2001;
@@ -29,8 +33,9 @@ const MOST_MADE: usize = 2001;
 // How many places for hints there are.
 const HINTS: usize = 1 << 16;
 
-/// The room of an elimination. Its rows lie in a pool that it is lent, behind the rows of others: those of the system first, and behind
-/// them those of the next system in the making. What is kept beside a row stands at its place in a vector, and all vectors are taken once.
+/// The room of an elimination. The coefficients of its rows lie in a pool that it is lent, behind the rows of others. Rows that the next
+/// system in the making keeps stay where they are, new ones are put behind all, and where a system ends with many places that no row has, its
+/// rows move together. All vectors are taken once.
 ///
 /// It is seen as the pool with the rows of others, the variables, the system, and the one in the making.
 #[derive(Drop)]
@@ -38,8 +43,8 @@ pub(crate) struct Workspace {
     pool: RowPool,
     base: usize,
     vars: ArrayVec<u32, 64>,
-    rows: Vec<Side>,
-    made: Vec<Side>,
+    rows: Vec<Stored>,
+    made: Vec<Stored>,
     // The place at which coefficients of this hash were found last. It is only a guess, is tested, and is never cleared.
     hints: Vec<u32>,
 }
@@ -132,16 +137,23 @@ impl Workspace {
         self.made.len()
     }
 
-    /// The cells of a row of the system.
-    pub(crate) fn cells(&self, at: usize) -> &[i64]
+    /// The coefficients of a row of the system.
+    pub(crate) fn coefficients(&self, at: usize) -> &[i64]
         requires { at < length self.now.rows }
-        ensures linear { linear_in self.now.vars result.now ≡ linear_of (slice_index_or self.now.rows at no_row) }
-        ensures wide { length result.now ≡ length self.now.vars + 1 }
-        ensures small { IsTrue (all_within (linear_in self.now.vars result.now).terms) }
+        ensures linear { linear_in self.now.vars ((slice_index_or self.now.rows at no_row).constant ∷ result.now) ≡ linear_of (slice_index_or self.now.rows at no_row) }
+        ensures wide { length result.now ≡ length self.now.vars }
+        ensures few { length self.now.vars ≤ 64 }
+        ensures small { IsTrue (all_within (slice_index_or self.now.rows at no_row).terms) }
     {
-        let end = self.pool.mark().0 - self.made.len();
-        let place = end - (self.rows.len() - at);
-        used_cells(&self.pool, place, self.vars.len() + 1)
+        coefficients_of(&self.pool, &self.rows[at], self.vars.len())
+    }
+
+    /// The constant of a row of the system.
+    pub(crate) fn constant(&self, at: usize) -> &i64
+        requires { at < length self.now.rows }
+        ensures { result.now ≡ (slice_index_or self.now.rows at no_row).constant }
+    {
+        &self.rows[at].constant
     }
 
     /// Where a row of the system comes from.
@@ -149,7 +161,7 @@ impl Workspace {
         requires { at < length self.now.rows }
         ensures { result ≡ (slice_index_or self.now.rows at no_row).source }
     {
-        self.rows[at].source
+        self.rows[at].side.source
     }
 
     /// The step that gives a row of the system, where there is one.
@@ -170,36 +182,27 @@ impl Workspace {
         ensures { result.now ≡ coefficient (slice_index_or self.now.vars column 0) (slice_index_or self.now.rows at no_row).terms }
     {
         let _vars = self.vars();
-        &self.cells(at)[column + 1]
+        &self.coefficients(at)[column]
     }
 
-    /// A row of the system, tightened again.
-    pub(crate) fn again(&self, at: usize) -> NewRow
-        requires { at < length self.now.rows }
-        ensures row { row_in self.now.vars result.cells.items result.side ≡ tight (slice_index_or self.now.rows at no_row).source (linear_of (slice_index_or self.now.rows at no_row)) }
-        ensures wide { length result.cells.items ≡ length self.now.vars + 1 }
-        ensures small { IsTrue (all_within (linear_in self.now.vars result.cells.items).terms) }
+    /// Puts the rows without the variable of this column.
+    pub(crate) fn keep_without(&mut self, column: usize)
+        requires none { self.old.made ≡ [] }
+        requires few { length self.old.rows ≤ 2000 }
+        requires within { column < length self.old.vars }
+        ensures { self.new ≡ record self.old { made = reduced_onto [] (with_sign Zero (slice_index_or self.old.vars column 0) self.old.rows) } }
     {
-        tight(self.vars(), copied(self.cells(at)), self.source(at))
-    }
-
-    /// Gives the system in the making up.
-    pub(crate) fn clear_made(&mut self)
-        ensures { self.new ≡ record self.old { made = [] } }
-    {
-        let end = self.pool.mark().0 - self.made.len();
-        self.pool.release(Mark(end));
-        self.made.clear();
+        keep(&self.pool, column, self.rows.as_slice(), &mut self.made);
     }
 
     /// Puts a row behind those in the making, or in place of the one with equal coefficients where its constant is less. A row that holds
     /// in any case is dropped.
     pub(crate) fn settle(&mut self, row: &NewRow)
-        requires few { length self.old.rows ≤ 2000 }
         requires few_made { length self.old.made ≤ 2000 }
         requires room { HasRoom self.old }
         requires wide { length row.now.cells.items ≡ length self.old.vars + 1 }
         requires small { IsTrue (all_within (linear_in self.old.vars row.now.cells.items).terms) }
+        requires tight { nat_lt 1 (divisor (linear_in self.old.vars row.now.cells.items).terms) ≡ false }
         ensures { self.new ≡ record self.old { made = settle self.old.made (row_in self.old.vars row.now.cells.items row.now.side) } }
     {
         if row.holds() {
@@ -222,27 +225,27 @@ impl Workspace {
 
     /// Makes the system in the making the present one. Each row in order gets its steps.
     pub(crate) fn turn(&mut self, steps: &mut Steps)
-        requires few { length self.old.made ≤ 2001 }
+        requires few { length self.old.made ≤ 2000 }
         requires room { length steps.old + 2 * length self.old.made ≤ 257026 }
         ensures numbered { numbered steps.old [] self.old.made ≡ record { steps = steps.new; rows = self.new.rows } }
         ensures turned { self.new ≡ record self.old { rows = self.new.rows; made = [] } }
         ensures few { length steps.new ≤ length steps.old + 2 * length self.old.made }
     {
-        let end = self.pool.mark().0 - self.made.len();
         self.rows.clear();
         number(self.made.as_slice(), &mut self.rows, steps);
         self.made.clear();
-        self.pool.slide(Mark(self.base), Mark(end));
+        if self.pool.mark().0 - self.base > MOST_ROWS {
+            gather(&mut self.pool, self.base, &mut self.rows, &mut self.made);
+        }
     }
 
-    // The cells of a row in the making.
-    fn made_cells(&self, place: usize) -> &[i64]
+    // The coefficients of a row in the making.
+    fn made_coefficients(&self, place: usize) -> &[i64]
         requires { place < length self.now.made }
-        ensures linear { linear_in self.now.vars result.now ≡ linear_of (slice_index_or self.now.made place no_row) }
-        ensures wide { length result.now ≡ length self.now.vars + 1 }
+        ensures linear { linear_in self.now.vars ((slice_index_or self.now.made place no_row).constant ∷ result.now) ≡ linear_of (slice_index_or self.now.made place no_row) }
+        ensures wide { length result.now ≡ length self.now.vars }
     {
-        let start = self.pool.mark().0 - self.made.len();
-        used_cells(&self.pool, start + place, self.vars.len() + 1)
+        coefficients_of(&self.pool, &self.made[place], self.vars.len())
     }
 
     // Whether the row at this place of those in the making has these coefficients.
@@ -253,7 +256,7 @@ impl Workspace {
     {
         let _vars = self.vars();
         are_same(
-            coefficients(self.made_cells(place)),
+            self.made_coefficients(place),
             coefficients(cells.as_slice()),
         )
     }
@@ -310,26 +313,24 @@ impl Workspace {
 
     // Puts a row behind those in the making, none of which has its coefficients.
     fn put(&mut self, row: &NewRow)
-        requires few { length self.old.rows ≤ 2000 }
         requires few_made { length self.old.made ≤ 2000 }
         requires room { HasRoom self.old }
         requires wide { length row.now.cells.items ≡ length self.old.vars + 1 }
-        requires small { IsTrue (all_within (linear_in self.old.vars row.now.cells.items).terms) }
+        requires settled { IsSettled (linear_in self.old.vars row.now.cells.items) }
         requires other { list_any (λ r. same_terms r.terms (linear_in self.old.vars row.now.cells.items).terms) self.old.made ≡ false }
         ensures { self.new ≡ record self.old { made = self.old.made ++ row_in self.old.vars row.now.cells.items row.now.side ∷ [] } }
     {
+        let place = self.pool.mark().0;
         let Ok(_) = self.pool.push(&padded(row.cells.as_slice())) else {
             unreachable!()
         };
-        let Ok(()) = self.made.push(row.side) else {
-            unreachable!()
-        };
+        put_stored(&mut self.made, &stored(row, place));
     }
 
     // Puts a row in place of another one in the making, which has its coefficients, where its constant is less.
     fn lower(&mut self, place: usize, row: &NewRow)
         requires wide { length row.now.cells.items ≡ length self.old.vars + 1 }
-        requires small { IsTrue (all_within (linear_in self.old.vars row.now.cells.items).terms) }
+        requires settled { IsSettled (linear_in self.old.vars row.now.cells.items) }
         requires same { IsPlace self.old.made (linear_in self.old.vars row.now.cells.items).terms place }
         ensures { self.new ≡ record self.old {
           made = slice_set self.old.made place
@@ -347,7 +348,7 @@ impl Workspace {
         requires wide { length row.now.cells.items ≡ length self.now.vars + 1 }
         ensures { result ≡ int_lt (linear_in self.now.vars row.now.cells.items).constant (slice_index_or self.now.made place no_row).constant }
     {
-        *constant_of(row.cells.as_slice()) < *constant_of(self.made_cells(place))
+        *constant_of(row.cells.as_slice()) < self.made[place].constant
     }
 
     // Tells that no two rows in the making have equal coefficients.
@@ -360,24 +361,24 @@ impl Workspace {
     // Puts a row in place of another one in the making, which has its coefficients.
     fn replace(&mut self, place: usize, row: &NewRow)
         requires wide { length row.now.cells.items ≡ length self.old.vars + 1 }
-        requires small { IsTrue (all_within (linear_in self.old.vars row.now.cells.items).terms) }
+        requires settled { IsSettled (linear_in self.old.vars row.now.cells.items) }
         requires same { IsPlace self.old.made (linear_in self.old.vars row.now.cells.items).terms place }
         ensures { self.new ≡ record self.old { made = slice_set self.old.made place (row_in self.old.vars row.now.cells.items row.now.side) } }
     {
-        let start = self.pool.mark().0 - self.made.len();
-        let id = RowId(start + place);
-        self.pool.set(id, &padded(row.cells.as_slice()));
-        self.made[place] = row.side;
+        self.made[place] = stored(row, self.made[place].place);
     }
 }
 
-// The first cells of a row of a pool.
-fn used_cells(pool: &RowPool, place: usize, used: usize) -> &[i64]
-    requires live { place < length pool.now.rows }
-    requires few { used ≤ pool.now.width }
-    ensures cells { option_map (take used) (slice_get pool.now.rows place) ≡ Some result.now }
-    ensures wide { length result.now ≡ used }
+// The row, whose coefficients lie at this place of the pool.
+fn stored(row: &NewRow, place: usize) -> Stored
+    requires { 0 < length row.now.cells.items }
+    ensures side { result.side ≡ row.now.side }
+    ensures constant { row.now.cells.items ≡ result.constant ∷ drop 1 row.now.cells.items }
+    ensures place { result.place ≡ place }
 {
-    let row = pool.row(RowId(place));
-    &row[..used]
+    Stored {
+        side: row.side,
+        constant: *constant_of(row.cells.as_slice()),
+        place,
+    }
 }

@@ -15,6 +15,5 @@ returns-clause-small c =
     let fits : FitsSigned w64 c.coefficient.result.now = search rules in
     let e : c.unsigned_abs.result ≡ unsigned_abs (coefficient (get_or c.args.work.now.vars c.args.column 0) (get_or c.args.work.now.rows c.args.at no_row).terms) =
     c.unsigned_abs.ensures.value ∙ ap unsigned_abs (to_z-of_z w64 c.coefficient.result.now fits ∙ c.coefficient.ensures) in
-    let small = size_small c.args.work.now.vars c.cells-cells.result.now (get_or c.args.work.now.rows c.args.at no_row) (get_or c.args.work.now.vars c.args.column 0)
-    c.cells-cells.ensures.linear c.cells-cells.ensures.small in
+    let small = size_small (get_or c.args.work.now.rows c.args.at no_row) (get_or c.args.work.now.vars c.args.column 0) c.coefficients-cells.ensures.small in
     omega arith

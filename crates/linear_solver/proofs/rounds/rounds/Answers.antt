@@ -16,6 +16,7 @@ pub next_rows-requires : goal.next_rows-requires
 next_rows-requires c = record {
   ready = ready_now _ _ _ _ _ _ _ _ c.rounds.invariant c.requires.room c.look_at.ensures c.in-Take.is
       (ap (λ vs. slice_get vs c.column_of-column.result) (sym c.vars.ensures.vars) ∙ c.column_of-column.ensures);
+  none = ap (λ w. w.made) c.rounds.invariant.kept ∙ c.requires.empty;
 }
 
 pub turn-requires-clause-few : goal.turn-requires-clause-few

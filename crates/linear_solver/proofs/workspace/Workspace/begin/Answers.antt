@@ -10,7 +10,7 @@ pub invariant_of-self : goal.invariant_of-self
 invariant_of-self c =
     let e = idle_is _ _ _ _ _ (c.self.view_is ∙ c.requires.idle) c.self.invariant.lies in
     record {
-      lies = begun_lies _ _ _ _ c.args.vars.now _ _ c.swap.ensures.x_after c.mark.ensures.live c.requires.width c.put_risen.ensures c.requires.different c.requires.few e.2 e.3;
+      lies = begun_lies _ _ _ _ c.args.vars.now _ _ c.swap.ensures.x_after c.mark.ensures.live c.mark.ensures.within c.requires.width c.put_risen.ensures c.requires.different c.requires.few e.2 e.3;
       room_rows = c.self.invariant.room_rows;
       room_made = c.self.invariant.room_made;
     }

@@ -4,5 +4,4 @@ use Rattle.linear_solver.proofs.Fetching.{coefficient_in}
 use Rattle.linear_solver.proofs.workspace.Workspace.coefficient.Goals as goal
 
 pub returns : goal.returns
-returns c =
-    coefficient_in _ _ _ (get_or c.args.self.now.rows c.args.at no_row) _ c.vars-vars.ensures.vars c.vars-vars.ensures.rising c.requires.column c.cells.ensures.linear c.cells.ensures.wide
+returns c = coefficient_in _ _ _ (get_or c.args.self.now.rows c.args.at no_row) _ c.vars-vars.ensures.vars c.vars-vars.ensures.rising c.requires.column c.coefficients.ensures.linear

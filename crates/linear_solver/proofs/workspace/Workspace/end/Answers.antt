@@ -1,6 +1,12 @@
-use Rattle.std.proofs.Common.{◌∙◌, arith}
+use Rattle.std.proofs.Common.{◌∙◌, length, arith}
+use Rattle.linear_solver.proofs.Stores.{in-bound}
 use Rattle.linear_solver.proofs.Placing.{empty_lies, empty_is}
 use Rattle.linear_solver.proofs.workspace.Workspace.end.Goals as goal
+
+pub release-requires : goal.release-requires
+release-requires c =
+    let l = c.self.invariant.lies in
+    omega (arith, in-bound c.self.inside.base (length c.self.inside.pool.rows) c.self.inside.rows.items l.in_rows)
 
 pub invariant_of-self : goal.invariant_of-self
 invariant_of-self c = record {

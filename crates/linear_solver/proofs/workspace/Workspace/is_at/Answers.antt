@@ -5,6 +5,5 @@ use Rattle.linear_solver.proofs.workspace.Workspace.is_at.Goals as goal
 
 pub returns : goal.returns
 returns c =
-    same_in _ _ _ c.args.cells.now.items (get_or c.args.self.now.made c.args.place no_row) c.are_same.result c.vars-vars.ensures.vars c.vars-vars.ensures.rising c.made_cells.ensures.wide c.requires.wide c.made_cells.ensures.linear
-    (subst (λ (xs : List ℤ). IsTrue c.are_same.result ↔ (xs ≡ drop 1 c.args.cells.now.items)) c.coefficients.ensures
-    (subst (λ (ys : List ℤ). IsTrue c.are_same.result ↔ (c.coefficients.result.now ≡ ys)) (c.coefficients-2.ensures ∙ ap (drop 1) c.as_slice.ensures.value) c.are_same.ensures))
+    same_in _ _ _ c.args.cells.now.items (get_or c.args.self.now.made c.args.place no_row) c.are_same.result c.vars-vars.ensures.vars c.vars-vars.ensures.rising c.made_coefficients.ensures.wide c.requires.wide c.made_coefficients.ensures.linear
+    (subst (λ (ys : List ℤ). IsTrue c.are_same.result ↔ (c.made_coefficients.result.now ≡ ys)) (c.coefficients.ensures ∙ ap (drop 1) c.as_slice.ensures.value) c.are_same.ensures)

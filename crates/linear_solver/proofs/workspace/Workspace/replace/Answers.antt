@@ -1,39 +1,44 @@
-use Rattle.std.proofs.Common.{refl, ap, length, arith}
-use Rattle.linear_solver.proofs.Regions.{count_made}
-use Rattle.linear_solver.proofs.Placing.{replaced_as, set_work}
+use Rattle.std.proofs.Common.{refl, ◌∙◌, ◌<◌, ap, set, length, arith}
+use Rattle.linear_solver.specs.Region.{Work, row_in}
+use Rattle.linear_solver.proofs.Stores.{there_too}
+use Rattle.linear_solver.proofs.Regions.{count_made, Replaced}
+use Rattle.linear_solver.proofs.Placing.{set_work}
 use Rattle.linear_solver.proofs.workspace.Workspace.replace.Goals as goal
 
-pub overflow_add-id : goal.overflow_add-id
-overflow_add-id c =
-    let l = c.self.invariant.lies in
-    let count = l.count in
-    omega (arith, c.requires.same.0, c.mark.type_inv, c.mark.ensures.live, c.len.ensures, c.self.inside.made.ok, count_made _ _ _ _ _ l, ap (λ w. length w.made) c.self.view_is)
-
-pub set-requires-clause-live : goal.set-requires-clause-live
-set-requires-clause-live c =
-    let l = c.self.invariant.lies in
-    let count = l.count in
-    omega (arith, c.requires.same.0, c.mark.ensures.live, c.len.ensures, c.self.inside.made.ok, count_made _ _ _ _ _ l, ap (λ w. length w.made) c.self.view_is)
+pub index-requires : goal.index-requires
+index-requires c = omega (arith, c.requires.same.0, c.self.inside.made.ok, count_made _ _ _ _ _ _ c.self.invariant.lies c.self.view_is)
 
 pub index_mut-requires : goal.index_mut-requires
-index_mut-requires c = omega (arith, c.requires.same.0, c.self.inside.made.ok, count_made _ _ _ _ _ c.self.invariant.lies, ap (λ w. length w.made) c.self.view_is)
+index_mut-requires c = omega (arith, c.requires.same.0, c.self.inside.made.ok, count_made _ _ _ _ _ _ c.self.invariant.lies c.self.view_is)
 
 pub invariant_of-self : goal.invariant_of-self
 invariant_of-self c =
-    let l = c.self.invariant.lies in
-    let count = l.count in
-    let p = replaced_as _ c.set.new.self _ _ _ _ _ c.args.place _ c.args.row.now.cells.items c.as_slice.result.now c.args.row.now.side _ c.padded.result l c.self.view_is
-    c.requires.wide c.as_slice.ensures.value c.padded.ensures.front (omega (arith, c.mark.ensures.live, c.len.ensures, c.self.inside.made.ok)) c.set.ensures refl in
+    let live : c.args.place < length c.self.inside.made.items = omega (arith, c.requires.same.0, count_made _ _ _ _ _ _ c.self.invariant.lies c.self.view_is) in
+    let p : Replaced c.self.inside.pool c.self.inside.base c.self.inside.vars.items c.self.inside.rows.items c.self.inside.made.items (set c.self.inside.made.items c.args.place c.stored.result) c.args.place
+        c.args.row.now.cells.items c.stored.result = record {
+      lies = c.self.invariant.lies;
+      live = live;
+      first = c.stored.ensures.constant;
+      at = there_too c.self.inside.made.items c.args.place _ c.index.result.now c.stored.result live c.index.ensures c.stored.ensures.place;
+      after_is = refl;
+    } in
+    let q = set_work _ _ _ _ _ _ _ _ _ c.args.self.now p c.self.view_is c.requires.same c.requires.settled in
     record {
-      lies = (set_work _ _ _ _ _ _ _ _ _ _ _ p c.self.view_is c.requires.same c.requires.small).0;
+      lies = q.0;
       room_rows = c.self.invariant.room_rows;
       room_made = c.self.invariant.room_made;
     }
 
 pub returns : goal.returns
 returns c =
-    let l = c.self.invariant.lies in
-    let count = l.count in
-    let p = replaced_as _ c.set.new.self _ _ _ _ _ c.args.place _ c.args.row.now.cells.items c.as_slice.result.now c.args.row.now.side _ c.padded.result l c.self.view_is
-    c.requires.wide c.as_slice.ensures.value c.padded.ensures.front (omega (arith, c.mark.ensures.live, c.len.ensures, c.self.inside.made.ok)) c.set.ensures refl in
-    (set_work _ _ _ _ _ _ _ _ _ _ _ p c.self.view_is c.requires.same c.requires.small).1
+    let live : c.args.place < length c.self.inside.made.items = omega (arith, c.requires.same.0, count_made _ _ _ _ _ _ c.self.invariant.lies c.self.view_is) in
+    let p : Replaced c.self.inside.pool c.self.inside.base c.self.inside.vars.items c.self.inside.rows.items c.self.inside.made.items (set c.self.inside.made.items c.args.place c.stored.result) c.args.place
+        c.args.row.now.cells.items c.stored.result = record {
+      lies = c.self.invariant.lies;
+      live = live;
+      first = c.stored.ensures.constant;
+      at = there_too c.self.inside.made.items c.args.place _ c.index.result.now c.stored.result live c.index.ensures c.stored.ensures.place;
+      after_is = refl;
+    } in
+    let q = set_work _ _ _ _ _ _ _ _ _ c.args.self.now p c.self.view_is c.requires.same c.requires.settled in
+    q.1 ∙ ap (λ s. let w : Work = record c.args.self.now { made = set c.args.self.now.made c.args.place (row_in c.args.self.now.vars c.args.row.now.cells.items s) } in w) c.stored.ensures.side

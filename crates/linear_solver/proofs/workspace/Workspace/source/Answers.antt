@@ -1,13 +1,12 @@
-use Rattle.std.proofs.Common.{ap, sym, ◌∙◌, get_or, length, arith}
-use Rattle.linear_solver.specs.Region.{no_row}
-use Rattle.linear_solver.proofs.Regions.{count_rows, side_of}
+use Rattle.std.proofs.Common.{ap, sym, ◌∙◌, ◌<◌, length, get_or, arith}
+use Rattle.linear_solver.proofs.Stores.{there}
+use Rattle.linear_solver.proofs.Regions.{count_rows, row_beside}
 use Rattle.linear_solver.proofs.workspace.Workspace.source.Goals as goal
 
 pub index-requires : goal.index-requires
-index-requires c = omega (arith, c.requires, c.self.inside.rows.ok, count_rows _ _ _ _ _ c.self.invariant.lies, ap (λ w. length w.rows) c.self.view_is)
+index-requires c = omega (arith, c.requires, c.self.inside.rows.ok, count_rows _ _ _ _ _ _ c.self.invariant.lies c.self.view_is)
 
 pub returns : goal.returns
 returns c =
-    ap (λ s. s.source) c.index.ensures
-    ∙ sym (side_of _ _ _ _ _ c.args.at c.index.result.now c.self.invariant.lies (omega (arith, c.requires, c.self.inside.rows.ok, count_rows _ _ _ _ _ c.self.invariant.lies, ap (λ w. length w.rows) c.self.view_is)))
-    ∙ ap (λ w. (get_or w.rows c.args.at no_row).source) c.self.view_is
+    let live : c.args.at < length c.self.inside.rows.items = omega (arith, c.requires, count_rows _ _ _ _ _ _ c.self.invariant.lies c.self.view_is) in
+    sym (ap (λ r. r.source) (row_beside _ _ _ _ _ _ c.self.invariant.lies c.self.view_is c.args.at c.index.result.now live (there c.self.inside.rows.items c.args.at _ c.index.result.now live c.index.ensures)))
