@@ -1,12 +1,11 @@
 -- What is read of a workspace: coefficients, equal rows and constants; and a row that goes to its place.
-use Rattle.std.proofs.Common.{◌≡◌, ◌↔◌, ℕ, suc, ◌+◌, ◌<◌, ◌≤◌, ℤ, pos, IsTrue, Bool, true, false, ◌&&◌, ◌||◌, int_lt, int_le, List, [], ◌∷◌, ◌++◌, length, drop, set, get_or, refl, sym, ◌∙◌, ap, subst, arith}
+use Rattle.std.proofs.Common.{◌≡◌, ◌↔◌, ℕ, ◌+◌, ◌<◌, ◌≤◌, ℤ, pos, IsTrue, Bool, true, false, ◌&&◌, ◌||◌, int_lt, int_le, List, [], ◌∷◌, ◌++◌, length, drop, set, get_or, refl, sym, ◌∙◌, ap, subst, arith}
 use Rattle.std.specs.List.{list_any, list_all}
 use Rattle.proof_lines.specs.Cells.{is_zero}
 use Rattle.std.proofs.lemmas.List.{drop_more, drop_all, get_or_default}
 use Rattle.xan_lin.specs.declared.term.Term.{Term}
-use Rattle.linear_solver.specs.declared.source.Source.{Source}
 use Rattle.linear_solver.specs.declared.side.Side.{Side}
-use Rattle.linear_solver.specs.Systems.{Row, linear_of, same_terms, lesser, coefficient, settle, holds, tight}
+use Rattle.linear_solver.specs.Systems.{Row, linear_of, same_terms, lesser, coefficient, settle, holds}
 use Rattle.index_sorts.specs.Known.{no_terms}
 use Rattle.linear_solver.specs.Choosing.{cannot_hold}
 use Rattle.linear_solver.specs.Reducing.{AreDistinct, IsPlace}

@@ -2,21 +2,18 @@
 use Rattle.std.proofs.Common.{◌≡◌, ℕ, zero, suc, ◌+◌, ◌<◌, ◌≤◌, ℤ, pos, Bool, true, false, cond, nat_lt, ◌&&◌, int_lt, int_le, List, [], ◌∷◌, ◌++◌, length, take, drop, set, get_or, refl, sym, ◌∙◌, ap, subst, arith}
 use Rattle.std.specs.List.{list_any}
 use Rattle.xan_lin.specs.Linear.{Linear, all_within}
-use Rattle.xan_lin.specs.declared.term.Term.{Term}
 use Rattle.xan_pool.specs.Pool.{Pool}
 use Rattle.index_sorts.specs.Known.{no_terms}
 use Rattle.proof_lines.specs.Cells.{AreDifferent}
 use Rattle.linear_solver.specs.declared.side.Stored.{Stored}
 use Rattle.linear_solver.specs.declared.source.Sign.TheVariants.{Zero}
-use Rattle.linear_solver.specs.declared.step.Step.{Step}
 use Rattle.linear_solver.specs.Divisors.{divisor}
-use Rattle.linear_solver.specs.Systems.{Row, linear_of, same_terms, lesser, holds, reduced_onto, with_sign}
-use Rattle.linear_solver.specs.Numbering.{System, numbered}
-use Rattle.linear_solver.specs.Reducing.{AreDistinct, IsPlace}
-use Rattle.linear_solver.specs.Region.{AreRising, risen, linear_in, row_in, no_row, rows_of, without, IsSettled, NumberedSides, numbered_sides, empty_pool, idle, Work, work_at, HasRoom, Lies}
+use Rattle.linear_solver.specs.Systems.{Row, same_terms, lesser, reduced_onto, with_sign}
+use Rattle.linear_solver.specs.Reducing.{IsPlace}
+use Rattle.linear_solver.specs.Region.{risen, linear_in, row_in, no_row, rows_of, without, IsSettled, empty_pool, idle, Work, work_at, HasRoom, Lies}
 use Rattle.linear_solver.proofs.Distinct.{distinct-push}
 use Rattle.linear_solver.proofs.Stores.{in-bound}
-use Rattle.linear_solver.proofs.Regions.{Put, puts, puts_lie, Replaced, sets, sets_lie, keeps_rows, keeps_lie, lies_none, lies_begun, begins, count_rows, count_made, length-taken}
+use Rattle.linear_solver.proofs.Regions.{Put, puts, puts_lie, Replaced, sets, sets_lie, keeps_rows, keeps_lie, lies_none, lies_begun, begins, count_made, length-taken}
 use Rattle.linear_solver.proofs.Risen.{rising-risen, length-risen}
 
 -- ---- room
@@ -41,7 +38,7 @@ pub put_work : (pool new : Pool) (base : ℕ) (vars : List ℕ) (rows made more 
     → Lies new base vars rows more × (work_at new base vars rows more ≡ record w { made = w.made ++ row_in w.vars cells s.side ∷ [] })
 put_work pool new base vars rows made more cells s w p view =
     subst (λ (v : Work). list_any (λ r. same_terms r.terms (linear_in v.vars cells).terms) v.made ≡ false → IsSettled (linear_in v.vars cells)
-      → Lies new base vars rows more × (work_at new base vars rows more ≡ record v { made = v.made ++ row_in v.vars cells s.side ∷ [] })) view
+    → Lies new base vars rows more × (work_at new base vars rows more ≡ record v { made = v.made ++ row_in v.vars cells s.side ∷ [] })) view
     (λ other settled. (
       puts_lie pool new base vars rows made more cells s p (distinct-push (rows_of vars pool.rows made) (row_in vars cells s.side) p.lies.distinct_made other) settled,
       puts pool new base vars rows made more cells s p,
@@ -53,7 +50,7 @@ pub set_work : (pool : Pool) (base : ℕ) (vars : List ℕ) (rows made after : L
     → Lies pool base vars rows after × (work_at pool base vars rows after ≡ record w { made = set w.made place (row_in w.vars cells s.side) })
 set_work pool base vars rows made after place cells s w p view =
     subst (λ (v : Work). IsPlace v.made (linear_in v.vars cells).terms place → IsSettled (linear_in v.vars cells)
-      → Lies pool base vars rows after × (work_at pool base vars rows after ≡ record v { made = set v.made place (row_in v.vars cells s.side) })) view
+    → Lies pool base vars rows after × (work_at pool base vars rows after ≡ record v { made = set v.made place (row_in v.vars cells s.side) })) view
     (λ same settled. (
       sets_lie pool base vars rows made after place cells s p same settled,
       sets pool base vars rows made after place cells s p same,

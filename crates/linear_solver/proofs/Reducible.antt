@@ -1,16 +1,14 @@
 -- Rows that are tight and different: nothing changes where they are reduced again.
-use Rattle.std.proofs.Common.{◌≡◌, ℕ, ℤ, pos, Bool, true, false, cond, ◌&&◌, ◌||◌, nat_lt, int_le, List, [], ◌∷◌, ◌++◌, refl, sym, ◌∙◌, ap, subst, arith}
+use Rattle.std.proofs.Common.{◌≡◌, ℕ, pos, Bool, true, false, cond, ◌||◌, nat_lt, List, [], ◌∷◌, ◌++◌, refl, sym, ◌∙◌, ap, subst}
 use Rattle.std.specs.List.{list_any}
 use Rattle.std.proofs.lemmas.List.{append_assoc, append-nil}
 use Rattle.xan_lin.specs.Linear.{Linear}
-use Rattle.index_sorts.specs.Known.{no_terms}
 use Rattle.proof_lines.specs.Rows.{cut_of}
-use Rattle.linear_solver.specs.declared.source.Source.{Source}
 use Rattle.linear_solver.specs.declared.source.Sign.{Sign}
 use Rattle.linear_solver.specs.declared.step.Step.{Step}
 use Rattle.linear_solver.specs.Divisors.{divisor}
-use Rattle.linear_solver.specs.Systems.{Row, linear_of, row_of, same_terms, tight, divided_by, settle, placed, holds, reduced_onto, has_sign, with_sign}
-use Rattle.linear_solver.specs.Numbering.{System, numbered, steps_with, line_with, at_line}
+use Rattle.linear_solver.specs.Systems.{Row, linear_of, row_of, same_terms, tight, settle, reduced_onto, has_sign, with_sign}
+use Rattle.linear_solver.specs.Numbering.{numbered, steps_with, line_with, at_line}
 use Rattle.linear_solver.specs.Reducing.{AreDistinct}
 use Rattle.linear_solver.specs.Region.{IsSettled, AreSettled, AreLines}
 use Rattle.linear_solver.proofs.Distinct.{placed-new, turned, settle-placed, either_false}

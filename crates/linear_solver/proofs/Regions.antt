@@ -1,8 +1,7 @@
 -- What an elimination works on: how it is read, and what comes of a row more, of another row, of the rows without a variable, and of the next system.
-use Rattle.std.proofs.Common.{◌≡◌, ℕ, zero, suc, ◌+◌, ◌-◌, ◌<◌, ◌≤◌, ℤ, pos, Bool, true, false, List, [], ◌∷◌, ◌++◌, length, take, drop, set, get_or, refl, sym, ◌∙◌, ap, subst, arith}
+use Rattle.std.proofs.Common.{◌≡◌, ℕ, zero, suc, ◌+◌, ◌-◌, ◌<◌, ◌≤◌, ℤ, true, List, [], ◌∷◌, ◌++◌, length, take, drop, set, get_or, refl, sym, ◌∙◌, ap, subst, arith}
 use Rattle.std.proofs.lemmas.List.{length-append, take-append-le, take_all}
 use Rattle.xan_lin.specs.Linear.{Linear, all_within}
-use Rattle.xan_lin.specs.declared.term.Term.{Term}
 use Rattle.xan_pool.specs.Pool.{Pool}
 use Rattle.linear_solver.specs.declared.side.Stored.{Stored}
 use Rattle.linear_solver.specs.declared.source.Sign.TheVariants.{Zero}
@@ -10,11 +9,11 @@ use Rattle.linear_solver.specs.declared.step.Step.{Step}
 use Rattle.linear_solver.specs.Systems.{Row, linear_of, reduced_onto, with_sign}
 use Rattle.linear_solver.specs.Numbering.{System, numbered}
 use Rattle.linear_solver.specs.Reducing.{AreDistinct, IsPlace}
-use Rattle.linear_solver.specs.Region.{AreRising, AreIn, AreLines, AreSettled, IsSettled, sparse, linear_in, row_in, no_row, cells_of, stored_row, rows_of, NumberedSides, numbered_sides, without, placed_from, moved, empty_pool, Work, work_at, Lies, idle}
+use Rattle.linear_solver.specs.Region.{AreRising, AreIn, AreLines, AreSettled, IsSettled, sparse, linear_in, row_in, no_row, stored_row, rows_of, NumberedSides, numbered_sides, without, placed_from, moved, empty_pool, Work, work_at, Lies, idle}
 use Rattle.linear_solver.proofs.Sparse.{sparse-front}
-use Rattle.linear_solver.proofs.Distinct.{distinct-push, distinct-set, equal_terms}
+use Rattle.linear_solver.proofs.Distinct.{distinct-set, equal_terms}
 use Rattle.linear_solver.proofs.Reducible.{Kept, keeps, settled-push, Numbered, numbers_keep}
-use Rattle.linear_solver.proofs.Stores.{length-rows_of, rows_of-at, rows_of-push, rows_of-set, rows_of-none, length-set, in-bound, in-more, in-at, in-push, in-set, in-without, length-without, rows_of-more, rows_of-taken, last_row, rows_of-without, numbered_of, in-numbered, length-sides, length-moved, take-moved, rows_of-moved, in-placed, length-placed}
+use Rattle.linear_solver.proofs.Stores.{length-rows_of, rows_of-at, rows_of-push, rows_of-set, rows_of-none, length-set, in-bound, in-more, in-at, in-push, in-set, in-without, rows_of-more, rows_of-taken, last_row, rows_of-without, numbered_of, in-numbered, length-sides, length-moved, take-moved, rows_of-moved, in-placed}
 
 pub length-taken : {X : Type 0} (n : ℕ) (xs : List X) → n ≤ length xs → length (take n xs) ≡ n
 length-taken zero xs h = refl
@@ -394,7 +393,7 @@ idle_is pool base vars rows made view l =
     let within = l.within in
     let no_rows : pool.rows ≡ [] = none pool.rows (omega (arith, ap (λ w. w.pool.capacity) view)) in (
       ap (λ rs. let p : Pool = record pool { rows = rs } in p) no_rows
-      ∙ ap (λ rs. let p : Pool = record pool { rows = rs } in p) (sym (ap (take base) no_rows ∙ nothing base)) ∙ ap (λ w. w.pool) view,
+          ∙ ap (λ rs. let p : Pool = record pool { rows = rs } in p) (sym (ap (take base) no_rows ∙ nothing base)) ∙ ap (λ w. w.pool) view,
       ap (λ w. w.vars) view,
       none rows (omega (arith, length-rows_of vars pool.rows rows, ap (λ w. length w.rows) view)),
       none made (omega (arith, length-rows_of vars pool.rows made, ap (λ w. length w.made) view)),

@@ -3,14 +3,13 @@ use Rattle.std.proofs.Common.{◌≡◌, ℕ, zero, suc, ◌+◌, ◌<◌, ◌�
 use Rattle.std.specs.Ordering.{int_eq}
 use Rattle.std.proofs.lemmas.List.{append_assoc, append-nil, length-append, get_or_append_left, get_or_default, drop_more, drop_all}
 use Rattle.std.proofs.Math.Seq.{get_or-append_seam}
-use Rattle.xan_lin.specs.Linear.{Linear}
 use Rattle.xan_pool.specs.Pool.{Pool}
 use Rattle.linear_solver.specs.declared.side.Stored.{Stored}
 use Rattle.linear_solver.specs.declared.source.Sign.TheVariants.{Zero}
 use Rattle.linear_solver.specs.declared.step.Step.{Step}
-use Rattle.linear_solver.specs.Systems.{Row, linear_of, coefficient, has_sign, with_sign}
-use Rattle.linear_solver.specs.Numbering.{System, numbered, steps_with, line_with, at_line}
-use Rattle.linear_solver.specs.Region.{AreRising, AreIn, sparse, linear_in, row_in, no_row, cells_of, stored_row, rows_of, stored_at, NumberedSides, numbered_sides, has_none, without, placed_from, moved}
+use Rattle.linear_solver.specs.Systems.{Row, has_sign, with_sign}
+use Rattle.linear_solver.specs.Numbering.{System, numbered, steps_with, line_with}
+use Rattle.linear_solver.specs.Region.{AreRising, AreIn, sparse, row_in, no_row, stored_row, rows_of, stored_at, numbered_sides, has_none, without, placed_from, moved}
 use Rattle.linear_solver.proofs.Sparse.{sparse-front, sparse-coefficient}
 
 -- ---- rows by their numbers

@@ -1,4 +1,4 @@
-use Rattle.std.proofs.Common.{◌+◌, length, arith}
+use Rattle.std.proofs.Common.{arith}
 use Rattle.linear_solver.proofs.Adding.{adds_first, adds_past_first, adds_next, adds_past_next, adds_all}
 use Rattle.linear_solver.proofs.cells.combined.Goals as goal
 

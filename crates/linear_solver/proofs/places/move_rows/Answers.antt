@@ -1,4 +1,4 @@
-use Rattle.std.proofs.Common.{◌∙◌, ap, sym, get_or, length, arith}
+use Rattle.std.proofs.Common.{◌∙◌, ap, sym, get_or, arith}
 use Rattle.xan_pool.specs.Pool.{Pool}
 use Rattle.linear_solver.proofs.Stores.{here, moves_live, moves_more, moves_end}
 use Rattle.linear_solver.proofs.places.move_rows.Goals as goal

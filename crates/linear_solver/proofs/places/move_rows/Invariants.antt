@@ -1,5 +1,4 @@
 use Rattle.std.proofs.Common.{◌≡◌, ◌≤◌, vec_capacity}
-use Rattle.xan_pool.specs.Pool.{Pool}
 use Rattle.linear_solver.proofs.Stores.{Moves}
 use Rattle.linear_solver.proofs.places.move_rows.Given as goal
 

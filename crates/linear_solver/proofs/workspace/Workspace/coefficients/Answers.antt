@@ -1,6 +1,6 @@
-use Rattle.std.proofs.Common.{◌∙◌, ap, sym, ◌<◌, ◌+◌, length, get_or, arith}
+use Rattle.std.proofs.Common.{ap, ◌<◌, length, arith}
 use Rattle.linear_solver.proofs.Stores.{there}
-use Rattle.linear_solver.proofs.Regions.{count_rows, count_vars, row_live, reads_row, given}
+use Rattle.linear_solver.proofs.Regions.{count_rows, row_live, reads_row}
 use Rattle.linear_solver.proofs.workspace.Workspace.coefficients.Goals as goal
 
 pub index-requires : goal.index-requires

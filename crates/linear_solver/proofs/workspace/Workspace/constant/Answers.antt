@@ -1,4 +1,4 @@
-use Rattle.std.proofs.Common.{ap, sym, ◌∙◌, ◌<◌, length, get_or, arith}
+use Rattle.std.proofs.Common.{ap, sym, ◌<◌, length, arith}
 use Rattle.linear_solver.proofs.Stores.{there}
 use Rattle.linear_solver.proofs.Regions.{count_rows, row_beside}
 use Rattle.linear_solver.proofs.workspace.Workspace.constant.Goals as goal

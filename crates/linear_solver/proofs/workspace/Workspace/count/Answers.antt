@@ -1,4 +1,4 @@
-use Rattle.std.proofs.Common.{length, arith}
+use Rattle.std.proofs.Common.{arith}
 use Rattle.linear_solver.proofs.Regions.{count_rows}
 use Rattle.linear_solver.proofs.workspace.Workspace.count.Goals as goal
 

@@ -1,4 +1,4 @@
-use Rattle.std.proofs.Common.{length, arith}
+use Rattle.std.proofs.Common.{arith}
 use Rattle.linear_solver.proofs.Regions.{count_made}
 use Rattle.linear_solver.proofs.workspace.Workspace.count_made.Goals as goal
 

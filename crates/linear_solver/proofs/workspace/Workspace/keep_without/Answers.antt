@@ -13,8 +13,15 @@ keep-requires-clause-live c =
 pub keep-requires-clause-room : goal.keep-requires-clause-room
 keep-requires-clause-room c =
     let l = c.self.invariant.lies in
-    omega (arith, c.requires.few, ap length c.requires.none, count_rows _ _ _ _ _ _ l c.self.view_is, count_made _ _ _ _ _ _ l c.self.view_is, ap length c.as_slice.ensures.value,
-    c.self.invariant.room_made)
+    omega (
+      arith,
+      c.requires.few,
+      ap length c.requires.none,
+      count_rows _ _ _ _ _ _ l c.self.view_is,
+      count_made _ _ _ _ _ _ l c.self.view_is,
+      ap length c.as_slice.ensures.value,
+      c.self.invariant.room_made,
+    )
 
 pub invariant_of-self : goal.invariant_of-self
 invariant_of-self c = record {
@@ -26,4 +33,4 @@ invariant_of-self c = record {
 
 pub returns : goal.returns
 returns c = (keep_work _ _ _ _ _ _ _ _ c.self.invariant.lies c.self.view_is c.requires.none c.requires.within
-      (c.keep.ensures.items ∙ ap (λ ss. c.self.inside.made.items ++ without c.self.inside.pool.rows c.args.column ss) c.as_slice.ensures.value)).1
+    (c.keep.ensures.items ∙ ap (λ ss. c.self.inside.made.items ++ without c.self.inside.pool.rows c.args.column ss) c.as_slice.ensures.value)).1

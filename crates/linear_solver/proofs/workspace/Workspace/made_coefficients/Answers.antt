@@ -1,4 +1,4 @@
-use Rattle.std.proofs.Common.{◌∙◌, ap, sym, ◌<◌, ◌+◌, length, get_or, arith}
+use Rattle.std.proofs.Common.{ap, ◌<◌, length, arith}
 use Rattle.linear_solver.proofs.Stores.{there}
 use Rattle.linear_solver.proofs.Regions.{count_made, made_live, reads_made}
 use Rattle.linear_solver.proofs.workspace.Workspace.made_coefficients.Goals as goal

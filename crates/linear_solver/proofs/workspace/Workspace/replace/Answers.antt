@@ -15,7 +15,7 @@ pub invariant_of-self : goal.invariant_of-self
 invariant_of-self c =
     let live : c.args.place < length c.self.inside.made.items = omega (arith, c.requires.same.0, count_made _ _ _ _ _ _ c.self.invariant.lies c.self.view_is) in
     let p : Replaced c.self.inside.pool c.self.inside.base c.self.inside.vars.items c.self.inside.rows.items c.self.inside.made.items (set c.self.inside.made.items c.args.place c.stored.result) c.args.place
-        c.args.row.now.cells.items c.stored.result = record {
+    c.args.row.now.cells.items c.stored.result = record {
       lies = c.self.invariant.lies;
       live = live;
       first = c.stored.ensures.constant;
@@ -33,7 +33,7 @@ pub returns : goal.returns
 returns c =
     let live : c.args.place < length c.self.inside.made.items = omega (arith, c.requires.same.0, count_made _ _ _ _ _ _ c.self.invariant.lies c.self.view_is) in
     let p : Replaced c.self.inside.pool c.self.inside.base c.self.inside.vars.items c.self.inside.rows.items c.self.inside.made.items (set c.self.inside.made.items c.args.place c.stored.result) c.args.place
-        c.args.row.now.cells.items c.stored.result = record {
+    c.args.row.now.cells.items c.stored.result = record {
       lies = c.self.invariant.lies;
       live = live;
       first = c.stored.ensures.constant;

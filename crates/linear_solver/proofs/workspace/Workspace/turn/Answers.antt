@@ -1,5 +1,5 @@
-use Rattle.std.proofs.Common.{sym, subst, ◌∙◌, ap, ◌+◌, ◌*◌, [], length, arith}
-use Rattle.linear_solver.specs.Region.{numbered_sides, AreIn}
+use Rattle.std.proofs.Common.{sym, ◌∙◌, ap, [], length, arith}
+use Rattle.linear_solver.specs.Region.{numbered_sides}
 use Rattle.linear_solver.proofs.Stores.{in-bound}
 use Rattle.linear_solver.proofs.Regions.{count_made, done_live, done-length, turn_stays, turn_gathers}
 use Rattle.linear_solver.proofs.workspace.Workspace.turn.Goals as goal
