@@ -10,6 +10,7 @@ pub mod Regions
 pub mod Placing
 pub mod Fetching
 pub mod Passes
+pub mod Tallies
 pub mod Makings
 pub mod Summing
 pub mod Turns

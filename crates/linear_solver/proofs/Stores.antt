@@ -182,20 +182,20 @@ in-numbered low high steps done (s ∷ sides) i =
 
 -- ---- rows that move together
 
-get-other : {X : Type 0} (xs : List X) (k p : ℕ) (x d : X) → k < p → get_or (set xs k x) p d ≡ get_or xs p d
+pub get-other : {X : Type 0} (xs : List X) (k p : ℕ) (x d : X) → k < p → get_or (set xs k x) p d ≡ get_or xs p d
 get-other [] k p x d h = refl
 get-other (y ∷ xs) zero zero x d h = absurd (omega arith)
 get-other (y ∷ xs) zero (suc p) x d h = refl
 get-other (y ∷ xs) (suc k) zero x d h = refl
 get-other (y ∷ xs) (suc k) (suc p) x d h = get-other xs k p x d (omega arith)
 
-get-below : {X : Type 0} (xs : List X) (k p : ℕ) (x d : X) → p < k → get_or (set xs k x) p d ≡ get_or xs p d
+pub get-below : {X : Type 0} (xs : List X) (k p : ℕ) (x d : X) → p < k → get_or (set xs k x) p d ≡ get_or xs p d
 get-below [] k p x d h = refl
 get-below (y ∷ xs) zero p x d h = absurd (omega arith)
 get-below (y ∷ xs) (suc k) zero x d h = refl
 get-below (y ∷ xs) (suc k) (suc p) x d h = get-below xs k p x d (omega arith)
 
-get-there : {X : Type 0} (xs : List X) (k : ℕ) (x d : X) → k < length xs → get_or (set xs k x) k d ≡ x
+pub get-there : {X : Type 0} (xs : List X) (k : ℕ) (x d : X) → k < length xs → get_or (set xs k x) k d ≡ x
 get-there [] k x d h = absurd (omega arith)
 get-there (y ∷ xs) zero x d h = refl
 get-there (y ∷ xs) (suc k) x d h = get-there xs k x d (omega arith)

@@ -7,6 +7,7 @@ ghost use Rattle.linear_solver.specs.declared.source.Sign.TheVariants.{Positive,
 ghost use Rattle.linear_solver.specs.Region.{no_row};
 
 use crate::cells::are_zero;
+use crate::counts::{Counts, count_all};
 use crate::source::Look;
 use crate::workspace::Workspace;
 
@@ -75,42 +76,19 @@ fn choice_of(var: u32, positive: usize, negative: usize) -> Option<Choice>
 
 // The choice of the variable of this column, where the system has it.
 #[tactic(auto, unfolding(crate::specs::Choosing::candidate))]
-fn candidate(work: &Workspace, column: usize) -> Option<Choice>
+fn candidate(work: &Workspace, counts: &Counts, column: usize) -> Option<Choice>
     requires few { length work.now.rows ≤ 2000 }
     requires column { column < length work.now.vars }
+    requires positive { slice_index_or counts.now.positive column 0 ≡ length (with_sign Positive (slice_index_or work.now.vars column 0) work.now.rows) }
+    requires negative { slice_index_or counts.now.negative column 0 ≡ length (with_sign Negative (slice_index_or work.now.vars column 0) work.now.rows) }
     ensures { result ≡ candidate (slice_index_or work.now.vars column 0) work.now.rows }
 {
-    let counts = counts_of(work, column);
-    choice_of(work.vars()[column], counts.positive, counts.negative)
-}
-
-// How many rows have a positive coefficient, and how many a negative one.
-#[derive(Drop)]
-struct Counts {
-    positive: usize,
-    negative: usize,
-}
-
-// The counts of the variable of this column.
-#[tactic(auto, unfolding(crate::specs::Systems::with_sign))]
-fn counts_of(work: &Workspace, column: usize) -> Counts
-    requires few { length work.now.rows ≤ 2000 }
-    requires column { column < length work.now.vars }
-    ensures positive { result.positive ≡ length (with_sign Positive (slice_index_or work.now.vars column 0) work.now.rows) }
-    ensures negative { result.negative ≡ length (with_sign Negative (slice_index_or work.now.vars column 0) work.now.rows) }
-{
-    let mut positive = 0usize;
-    let mut negative = 0usize;
-    'rows: for at in 0..work.count() {
-        let coefficient = work.coefficient(at, column);
-        if *coefficient > 0 {
-            positive += 1;
-        }
-        if *coefficient < 0 {
-            negative += 1;
-        }
-    }
-    Counts { positive, negative }
+    let vars = work.vars();
+    choice_of(
+        vars[column],
+        counts.positive[column] as usize,
+        counts.negative[column] as usize,
+    )
 }
 
 // Whether the first choice comes before the second.
@@ -139,10 +117,11 @@ fn best(work: &Workspace) -> Option<Choice>
     requires { length work.now.rows ≤ 2000 }
     ensures { result ≡ best_from work.now.rows None work.now.vars }
 {
+    let counts = count_all(work);
     let count = work.vars().len();
     let mut best = None;
     'columns: for column in 0..count {
-        best = better(best, candidate(work, column));
+        best = better(best, candidate(work, &counts, column));
     }
     best
 }

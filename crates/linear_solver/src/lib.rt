@@ -9,6 +9,7 @@ mod answer;
 mod cells;
 mod choose;
 mod cone;
+mod counts;
 mod divisors;
 mod first;
 mod forms;

@@ -194,8 +194,8 @@ fn has_sign(sign: Sign, column: usize, at: usize, work: &Workspace) -> bool
     is_sign(sign, work.coefficient(at, column))
 }
 
-// Whether the number has this sign.
-fn is_sign(sign: Sign, number: &i64) -> bool
+/// Whether the number has this sign.
+pub(crate) fn is_sign(sign: Sign, number: &i64) -> bool
     ensures { result ≡ is_sign sign number.now }
 {
     match sign {

@@ -5,8 +5,8 @@ use Rattle.linear_solver.proofs.choose.candidate.Goals as goal
 
 pub choice_of-requires-clause-positive : goal.choice_of-requires-clause-positive
 choice_of-requires-clause-positive c =
-    omega (arith, c.counts_of-counts.ensures.positive, with_sign-few Positive (get_or c.args.work.now.vars c.args.column 0) c.args.work.now.rows, c.requires.few)
+    omega (arith, c.requires.positive, with_sign-few Positive (get_or c.args.work.now.vars c.args.column 0) c.args.work.now.rows, c.requires.few)
 
 pub choice_of-requires-clause-negative : goal.choice_of-requires-clause-negative
 choice_of-requires-clause-negative c =
-    omega (arith, c.counts_of-counts.ensures.negative, with_sign-few Negative (get_or c.args.work.now.vars c.args.column 0) c.args.work.now.rows, c.requires.few)
+    omega (arith, c.requires.negative, with_sign-few Negative (get_or c.args.work.now.vars c.args.column 0) c.args.work.now.rows, c.requires.few)
