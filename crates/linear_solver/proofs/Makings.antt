@@ -29,36 +29,6 @@ row_at w at = get_or w.rows at no_row
 abbrev var_at : Work → ℕ → ℕ
 var_at w column = get_or w.vars column 0
 
--- ---- rows without the variable
-
-pub record Reduces (column at : ℕ) (s w : Work) (whole : List Row) : Type 0 where
-  pub kept : Kept s w
-  pub same : reduced_onto w.made (with_sign Zero (var_at s column) (drop at s.rows)) ≡ whole
-  pub few : length w.made ≤ at
-
-one-more : (b : Bool) (made : List Row) (r : Row) → length (cond b (settle made r) made) ≤ length made + 1
-one-more true made r = settle-more made r
-one-more false made r = omega arith
-
-reduced_one : ℕ → ℕ → Work → List Row → List Row
-reduced_one column at w made = cond (has_sign Zero (var_at w column) (row_at w at)) (settle made (tight (row_at w at).source (linear_of (row_at w at)))) made
-
-pub reduces_next : (column at : ℕ) (s w new : Work) (whole : List Row) → Reduces column at s w whole → at < length s.rows
-    → new ≡ record w { made = cond (has_sign Zero (var_at w column) (row_at w at)) (settle w.made (tight (row_at w at).source (linear_of (row_at w at)))) w.made }
-    → Reduces column (at + 1) s new whole
-unfolding reduced_one
-reduces_next column at s w new whole r h change =
-    let by : new.made ≡ reduced_one column at s w.made = ap (λ v. v.made) change ∙ ap (λ v. reduced_one column at v w.made) r.kept in
-    record {
-      kept = kept_more s w new (reduced_one column at w w.made) r.kept change;
-      same = reduces_more (var_at s column) s.rows w.made new.made whole at h by r.same;
-      few = omega (arith, r.few, ap length by, one-more (has_sign Zero (var_at s column) (row_at s at)) w.made (tight (row_at s at).source (linear_of (row_at s at))));
-    }
-
-pub reduces_end : (column at : ℕ) (s w : Work) (whole : List Row) → Reduces column at s w whole → length s.rows ≤ at → w ≡ record s { made = whole }
-reduces_end column at s w whole r h =
-    r.kept ∙ ap (λ ms. let u : Work = record s { made = ms } in u) (reduces_all (var_at s column) s.rows w.made whole at h r.same)
-
 -- ---- sums with one positive row
 
 pub record Sums (column at positive : ℕ) (s w : Work) (whole : Result (List Row) LimitKind) : Type 0 where
@@ -119,13 +89,6 @@ pub all_end : (column at : ℕ) (s w : Work) (whole : Result (List Row) LimitKin
 all_end column at s w whole m h = all_all (var_at s column) s.rows (with_sign Negative (var_at s column) s.rows) w.made at whole h m.same
 
 -- ---- the beginning
-
-pub reduces_begin : (column : ℕ) (s : Work) → s.made ≡ [] → Reduces column 0 s s (reduced_onto [] (with_sign Zero (var_at s column) s.rows))
-reduces_begin column s none = record {
-  kept = refl;
-  same = ap (λ ms. reduced_onto ms (with_sign Zero (var_at s column) s.rows)) none;
-  few = omega (arith, ap length none);
-}
 
 pub sums_begin : (column positive : ℕ) (s : Work) → length s.made ≤ 2000
     → Sums column 0 positive s s (with_sums (var_at s column) (row_at s positive) (with_sign Negative (var_at s column) s.rows) s.made)

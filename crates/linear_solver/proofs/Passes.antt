@@ -89,37 +89,6 @@ best_more rows best next new whole vars column h is change same =
 pub best_all : (rows : List Row) (best whole : Option Choice) (vars : List ℕ) (column : ℕ) → length vars ≤ column → best_from rows best (drop column vars) ≡ whole → best ≡ whole
 best_all rows best whole vars column h same = sym (best-none rows best) ∙ ap (best_from rows best) (sym (drop_all column vars h)) ∙ same
 
--- ---- rows without the variable
-
-reduced-cons : (made : List Row) (r : Row) (rows : List Row) → reduced_onto made (r ∷ rows) ≡ reduced_onto (settle made (tight r.source (linear_of r))) rows
-unfolding reduced_onto
-reduced-cons made r rows = refl
-
-reduced-none : (made : List Row) → reduced_onto made [] ≡ made
-unfolding reduced_onto
-reduced-none made = refl
-
-pub reduces_more : (v : ℕ) (rows made new whole : List Row) (at : ℕ) → at < length rows
-    → new ≡ cond (has_sign Zero v (get_or rows at no_row)) (settle made (tight (get_or rows at no_row).source (linear_of (get_or rows at no_row)))) made
-    → reduced_onto made (with_sign Zero v (drop at rows)) ≡ whole → reduced_onto new (with_sign Zero v (drop (at + 1) rows)) ≡ whole
-reduces_more v rows made new whole at h change same =
-    ap (λ ms. reduced_onto ms (with_sign Zero v (drop (at + 1) rows))) change
-    ∙ go (has_sign Zero v (get_or rows at no_row))
-    ∙ ap (reduced_onto made) (sym (sign-at Zero v rows at h)) ∙ same
-  where
-    r : Row
-    r = get_or rows at no_row
-
-    rest : List Row
-    rest = with_sign Zero v (drop (at + 1) rows)
-
-    go : (b : Bool) → reduced_onto (cond b (settle made (tight r.source (linear_of r))) made) rest ≡ reduced_onto made (cond b (r ∷ rest) rest)
-    go true = sym (reduced-cons made r rest)
-    go false = refl
-
-pub reduces_all : (v : ℕ) (rows made whole : List Row) (at : ℕ) → length rows ≤ at → reduced_onto made (with_sign Zero v (drop at rows)) ≡ whole → made ≡ whole
-reduces_all v rows made whole at h same = sym (reduced-none made) ∙ ap (reduced_onto made) (sym (sign-end Zero v rows at h)) ∙ same
-
 -- ---- sums with one positive row
 
 sums-cons : (v : ℕ) (p n : Row) (negative made : List Row) → with_sums v p (n ∷ negative) made ≡ and_then (with_sum v p n made) (λ rows. with_sums v p negative rows)

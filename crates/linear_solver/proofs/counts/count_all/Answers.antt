@@ -1,4 +1,4 @@
-use Rattle.std.proofs.Common.{ap, get_or, ◌<◌, length, arith}
+use Rattle.std.proofs.Common.{get_or, ◌<◌, length, arith}
 use Rattle.linear_solver.specs.declared.source.Sign.TheVariants.{Positive, Negative}
 use Rattle.linear_solver.specs.Region.{no_row}
 use Rattle.linear_solver.proofs.Fetching.{coefficient_in}
