@@ -1,11 +1,10 @@
 -- The next system in the making, row after row of the present one.
-use Rattle.std.proofs.Common.{◌≡◌, ℕ, ◌+◌, ◌<◌, ◌≤◌, Bool, true, false, cond, List, [], length, drop, get_or, Result, Ok, Err, refl, sym, ◌∙◌, ap, subst, arith}
+use Rattle.std.proofs.Common.{◌≡◌, ℕ, ◌+◌, ◌<◌, ◌≤◌, cond, List, length, drop, get_or, Result, Ok, Err, refl, sym, ◌∙◌, ap, subst, arith}
 use Rattle.xan_lin.specs.declared.term.LimitKind.{LimitKind}
-use Rattle.linear_solver.specs.declared.source.Sign.TheVariants.{Positive, Negative, Zero}
-use Rattle.linear_solver.specs.Systems.{Row, linear_of, tight, settle, reduced_onto, has_sign, with_sign, with_sum, with_sums, with_all_sums}
+use Rattle.linear_solver.specs.declared.source.Sign.TheVariants.{Positive, Negative}
+use Rattle.linear_solver.specs.Systems.{Row, has_sign, with_sign, with_sum, with_sums, with_all_sums}
 use Rattle.linear_solver.specs.Region.{no_row, Work, HasRoom, IsOpen}
-use Rattle.linear_solver.proofs.Room.{settle-more}
-use Rattle.linear_solver.proofs.Passes.{reduces_more, reduces_all, sums_more, sums_stop, sums_all, all_more, all_stop, all_all}
+use Rattle.linear_solver.proofs.Passes.{sums_more, sums_stop, sums_all, all_more, all_stop, all_all}
 
 -- nothing but the rows in the making is another
 abbrev pub Kept : Work → Work → Type 0
