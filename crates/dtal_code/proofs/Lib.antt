@@ -6,6 +6,7 @@ mod Spelling
 mod Examples
 pub mod VerifiedPrograms
 pub mod ObjectRuns
-mod ArraySums
+pub mod ArraySums
+pub mod ArraySumText
 mod CodeRuns
 pub mod Appended
