@@ -6,6 +6,7 @@ mod Headers
 mod Whole
 mod Loops
 mod ChainLaws
+mod ChainLoops
 mod SpelledValues
 mod ListingLaws
 mod TypeTexts

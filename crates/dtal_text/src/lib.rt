@@ -3,9 +3,10 @@
 //! The reading of whole programs is a function here, and its law joins it to the text of `dtal_code`: what is read is spelled so, what is
 //! spelled so is read, and where reading fails the place is told by the language alone. The code reads straight programs so far:
 //! [`read_straight`] answers the one program that the bytes spell, or that they spell none. Each production is a reader of `xan_read`,
-//! and a function that gives what the reader gives.
+//! and a function that gives what the reader gives. [`read_chain`] reads lists in which what an item may be hangs on those before it.
 #![tactic(auto)]
 
+mod chain;
 mod error;
 mod header;
 mod instruction;
@@ -17,6 +18,7 @@ mod program;
 mod tests;
 mod word;
 
+pub use chain::{Chained, read_chain};
 pub use error::StraightError;
 pub use laws::program_texts_are_read;
 pub use line::{BodyLine, Lines, Stand, Which};
