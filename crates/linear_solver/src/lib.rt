@@ -14,6 +14,7 @@ mod divisors;
 mod first;
 mod forms;
 mod hash;
+mod hints;
 mod laws;
 mod line_buf;
 mod next;

@@ -13,6 +13,7 @@ ghost use Rattle.linear_solver.specs.Region.{AreRising, risen, linear_in, row_in
 use crate::cells::{Cells, WIDTH, are_same, coefficients, constant_of, padded};
 use crate::choose::MOST_ROWS;
 use crate::hash::hash;
+use crate::hints::Hints;
 use crate::numbering::number;
 use crate::places::{coefficients_of, gather, keep, put_stored};
 use crate::side::Stored;
@@ -30,9 +31,6 @@ use xan_pool::{Mark, RowPool};
 // How many rows a system in the making may come to have: one past the limit.
 const MOST_MADE: usize = 2001;
 
-// How many places for hints there are.
-const HINTS: usize = 1 << 16;
-
 /// The room of an elimination. The coefficients of its rows lie in a pool that it is lent, behind the rows of others. Rows that the next
 /// system in the making keeps stay where they are, new ones are put behind all, and where a system ends with many places that no row has, its
 /// rows move together. All vectors are taken once.
@@ -45,8 +43,7 @@ pub(crate) struct Workspace {
     vars: ArrayVec<u32, 64>,
     rows: Vec<Stored>,
     made: Vec<Stored>,
-    // The place at which coefficients of this hash were found last. It is only a guess, is tested, and is never cleared.
-    hints: Vec<u32>,
+    hints: Hints,
 }
 
 impl Model for Workspace {
@@ -73,9 +70,7 @@ impl Workspace {
         let Ok(made) = Vec::with_capacity(alloc, MOST_MADE) else {
             return Err(Memory);
         };
-        let Ok(hints) = vec![in alloc; 0; HINTS] else {
-            return Err(Memory);
-        };
+        let hints = Hints::new(alloc)?;
         Ok(Workspace {
             pool,
             base: 0,
@@ -208,18 +203,11 @@ impl Workspace {
         if row.holds() {
             return;
         }
+        let hash = hash(row.cells.as_slice());
         self.tell_distinct();
-        let hint = hash(row.cells.as_slice()) as usize % HINTS;
-        match self.place_of_equal(&row.cells, hint) {
-            Some(place) => {
-                self.lower(place, row);
-                self.hint(hint, place);
-            }
-            None => {
-                let place = self.count_made();
-                self.put(row);
-                self.hint(hint, place);
-            }
+        match self.guessed(&row.cells, hash) {
+            Some(place) => self.lower(place, row),
+            None => self.settle_searched(row, hash),
         }
     }
 
@@ -261,20 +249,45 @@ impl Workspace {
         )
     }
 
-    // The place of the row with these coefficients. Where the guess is wrong all rows are looked through; each search that finds none
-    // makes the list longer, so that there are few.
-    fn place_of_equal(&self, cells: &Cells, hint: usize) -> Option<usize>
-        requires { length cells.now.items ≡ length self.now.vars + 1 }
-        ensures { MatchOption result (list_any (λ row. same_terms row.terms (linear_in self.now.vars cells.now.items).terms) self.now.made ≡ false)
-            (λ place. IsPlace self.now.made (linear_in self.now.vars cells.now.items).terms place) }
+    // Does the same with a row that was not guessed, and keeps its place for a guess. All rows are looked through: each search that finds
+    // none makes the list longer, and each that finds one is the last for its row, so that there are few.
+    fn settle_searched(&mut self, row: &NewRow, hash: u64)
+        requires few_made { length self.old.made ≤ 2000 }
+        requires room { HasRoom self.old }
+        requires wide { length row.now.cells.items ≡ length self.old.vars + 1 }
+        requires settled { IsSettled (linear_in self.old.vars row.now.cells.items) }
+        ensures { self.new ≡ record self.old { made = settle self.old.made (row_in self.old.vars row.now.cells.items row.now.side) } }
     {
-        let guess = self.guess(hint);
-        if guess < self.count_made() {
+        self.tell_distinct();
+        match self.place_of(&row.cells) {
+            Some(place) => {
+                self.lower(place, row);
+                self.hint(hash, place);
+            }
+            None => {
+                let place = self.count_made();
+                self.put(row);
+                self.hint(hash, place);
+            }
+        }
+    }
+
+    // The place of the row with these coefficients, where one of the guesses for its hash is right.
+    fn guessed(&self, cells: &Cells, hash: u64) -> Option<usize>
+        requires { length cells.now.items ≡ length self.now.vars + 1 }
+        ensures { MatchOption result (Unit {0}) (λ place. IsPlace self.now.made (linear_in self.now.vars cells.now.items).terms place) }
+    {
+        let mut guess = self.hints.first(hash);
+        'guesses: for _guess in 0..self.count_made() {
+            if guess >= self.count_made() {
+                return None;
+            }
             if self.is_at(guess, cells) {
                 return Some(guess);
             }
+            guess = self.hints.next(hash, guess);
         }
-        self.place_of(cells)
+        None
     }
 
     // A place with these coefficients.
@@ -291,24 +304,11 @@ impl Workspace {
         None
     }
 
-    // The place that was kept for coefficients of this hash.
-    fn guess(&self, hint: usize) -> usize {
-        match self.hints.get(hint) {
-            Some(guess) => *guess as usize,
-            None => 0,
-        }
-    }
-
     // Keeps the place as a guess for coefficients of this hash.
-    fn hint(&mut self, hint: usize, place: usize)
+    fn hint(&mut self, hash: u64, place: usize)
         ensures { self.new ≡ self.old }
     {
-        let Ok(place) = u32::try_from(place) else {
-            return;
-        };
-        if let Some(guess) = self.hints.get_mut(hint) {
-            *guess = place;
-        }
+        self.hints.put(hash, place);
     }
 
     // Puts a row behind those in the making, none of which has its coefficients.

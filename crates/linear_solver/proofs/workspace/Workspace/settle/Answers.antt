@@ -1,5 +1,4 @@
-use Rattle.std.proofs.Common.{◌∙◌}
-use Rattle.linear_solver.proofs.Fetching.{holds_settled, put_settled, set_settled}
+use Rattle.linear_solver.proofs.Fetching.{holds_settled, set_settled}
 use Rattle.linear_solver.proofs.Placing.{settled_as}
 use Rattle.linear_solver.proofs.workspace.Workspace.settle.Goals as goal
 
@@ -9,15 +8,9 @@ returns-then-holds c = holds_settled _ _ _ (c.holds.ensures c.args.self.now.vars
 pub lower-requires-clause-settled : goal.lower-requires-clause-settled
 lower-requires-clause-settled c = settled_as _ _ c.requires.small c.requires.tight (c.holds.ensures c.args.self.now.vars c.requires.wide) c.if-holds.false
 
-pub put-requires-clause-settled : goal.put-requires-clause-settled
-put-requires-clause-settled c = settled_as _ _ c.requires.small c.requires.tight (c.holds.ensures c.args.self.now.vars c.requires.wide) c.if-holds.false
+pub settle_searched-requires-clause-settled : goal.settle_searched-requires-clause-settled
+settle_searched-requires-clause-settled c = settled_as _ _ c.requires.small c.requires.tight (c.holds.ensures c.args.self.now.vars c.requires.wide) c.if-holds.false
 
 pub returns-in-Some : goal.returns-in-Some
 returns-in-Some c =
-    c.hint.ensures
-    ∙ set_settled _ _ _ _ _ (c.holds.ensures c.args.self.now.vars c.requires.wide) c.if-holds.false (c.in-Some.ensures {u = tt}) c.tell_distinct.ensures c.lower.ensures
-
-pub returns-in-None : goal.returns-in-None
-returns-in-None c =
-    c.hint-in-None.ensures
-    ∙ put_settled _ _ _ _ (c.holds.ensures c.args.self.now.vars c.requires.wide) c.if-holds.false (c.in-None.ensures {u = tt}) c.put.ensures
+    set_settled _ _ _ _ _ (c.holds.ensures c.args.self.now.vars c.requires.wide) c.if-holds.false (c.in-Some.ensures {u = tt}) c.tell_distinct.ensures c.lower.ensures

@@ -1,6 +1,0 @@
-use Rattle.std.proofs.Common.{arith}
-use Rattle.linear_solver.proofs.Fetching.{is_place}
-use Rattle.linear_solver.proofs.workspace.Workspace.place_of_equal.Goals as goal
-
-pub returns-then-is_at : goal.returns-then-is_at
-returns-then-is_at c = is_place _ _ _ _ (omega (arith, c.if-guess-count_made.true, c.count_made.ensures)) c.is_at.ensures c.if-is_at.true
