@@ -1,0 +1,115 @@
+-- What the rules of loads, of new blocks and of calls say of types and tags.
+use Rattle.std.proofs.Common.{◌≡◌, ◌∙◌, ℕ, List, [], ◌∷◌, ◌++◌, Some, Ok, refl, ap, subst}
+use Rattle.std.specs.Prelude.{slice_get}
+use Rattle.xan_lin.specs.Linear.{Linear, excess_of}
+use Rattle.state_types.specs.Types.{subst_ty}
+use Rattle.state_types.specs.declared.closed.Packed.{Packed}
+use Rattle.state_types.specs.declared.closed.Signature.{Signature}
+use Rattle.state_types.specs.declared.types.Ty.{Ty}
+use Rattle.state_types.specs.declared.types.Ty.TheVariants as ty
+use Rattle.state_types.proofs.Thens.{then_ok, ok_same}
+use Rattle.operation_rules.specs.Faults.{needed, or_fault}
+use Rattle.operation_rules.specs.declared.error.Fault.TheVariants.{NoTarget}
+use Rattle.operation_rules.specs.Forms.{variables_from}
+use Rattle.operation_rules.specs.Rules.{Setting, two_types, as_number, as_array, tuple_at, cell_at, matching, matching_packed, loaded, allocated, constructed, called, rule}
+use Rattle.operation_rules.specs.declared.operation.Operation.TheVariants as operation
+use Rattle.operation_rules.specs.declared.rule.Rule.{Rule}
+use Rattle.operation_rules.proofs.RuleFacts.{or_fault_ok}
+use Rattle.operation_rules.proofs.WordsRead.{two_types_is, as_number_is, as_array_is}
+use Rattle.typed_core.specs.SourceValues.{Array, Tuple}
+use Rattle.source_safety.specs.Values.{tag_for, tags_for}
+use Rattle.source_safety.proofs.MatchTags.{matching_tags, shifted_tags, subst_tag, result_tags}
+use Rattle.source_safety.proofs.RuleTags.{TagsAre}
+
+pub record LoadRule (table : List Packed) (types : List Ty) (r : Rule) : Type 0 where
+  pub element : ℕ
+  pub count : Linear
+  pub index : Linear
+  pub is : types ≡ ty.Array element count ∷ ty.Int index ∷ []
+  pub packed : Packed
+  pub there : cell_at table element ≡ Ok packed
+  pub makes : TagsAre (tags_for packed.parts) r.given
+
+pub record NewRule (table : List Packed) (cells : ℕ) (types : List Ty) (r : Rule) : Type 0 where
+  pub count : Linear
+  pub fill : Ty
+  pub is : types ≡ ty.Int count ∷ fill ∷ []
+  pub packed : Packed
+  pub there : cell_at table cells ≡ Ok packed
+  pub tags : tags_for packed.parts ≡ tag_for fill ∷ []
+  pub makes : TagsAre (Array ∷ []) r.given
+
+pub record TupleRule (table : List Packed) (number : ℕ) (types : List Ty) (r : Rule) : Type 0 where
+  pub packed : Packed
+  pub there : tuple_at table number ≡ Ok packed
+  pub tags : tags_for packed.parts ≡ tags_for types
+  pub makes : TagsAre (Tuple ∷ []) r.given
+
+pub record CallRule (sigs : List Signature) (fun : ℕ) (types : List Ty) (r : Rule) : Type 0 where
+  pub sig : Signature
+  pub there : slice_get sigs fun ≡ Some sig
+  pub tags : tags_for sig.params ≡ tags_for types
+  pub makes : TagsAre (tag_for sig.result ∷ []) r.given
+
+module _ (st : Setting) (first : ℕ) (types : List Ty) (r : Rule) where
+  pub load_rule : rule st operation.Load types first ≡ Ok r → LoadRule st.table types r
+  unfolding rule loaded
+  load_rule e =
+      let s = then_ok (two_types types) _ r e in
+      let t = then_ok (as_array s.value.0) _ r s.second in
+      let u = then_ok (as_number s.value.1) _ r t.second in
+      let v = then_ok (needed (excess_of t.value.1 u.value)) _ r u.second in
+      let w = then_ok (cell_at st.table t.value.0) _ r v.second in
+      subst (λ x. LoadRule st.table types x) (ok_same _ r w.second) (record {
+        element = t.value.0;
+        count = t.value.1;
+        index = u.value;
+        is = two_types_is types s.value s.first ∙ ap (λ x. x ∷ s.value.1 ∷ []) (as_array_is s.value.0 t.value t.first)
+            ∙ ap (λ x. ty.Array t.value.0 t.value.1 ∷ x ∷ []) (as_number_is s.value.1 u.value u.first);
+        packed = w.value;
+        there = w.first;
+        makes = shifted_tags first w.value.parts;
+      })
+
+  pub new_rule : (cells : ℕ) → rule st (operation.New cells) types first ≡ Ok r → NewRule st.table cells types r
+  unfolding rule allocated tags_for
+  new_rule cells e =
+      let s = then_ok (cell_at st.table cells) _ r e in
+      let t = then_ok (two_types types) _ r s.second in
+      let u = then_ok (as_number t.value.0) _ r t.second in
+      let v = then_ok (matching_packed s.value (t.value.1 ∷ [])) _ r u.second in
+      subst (λ x. NewRule st.table cells types x) (ok_same _ r v.second) (record {
+        count = u.value;
+        fill = t.value.1;
+        is = two_types_is types t.value t.first ∙ ap (λ x. x ∷ t.value.1 ∷ []) (as_number_is t.value.0 u.value u.first);
+        packed = s.value;
+        there = s.first;
+        tags = matching_tags 0 s.value.vars s.value.rows s.value.parts (t.value.1 ∷ []) v.value v.first;
+        makes = (refl, tt);
+      })
+
+  pub tuple_rule : (number : ℕ) → rule st (operation.Tuple number) types first ≡ Ok r → TupleRule st.table number types r
+  unfolding rule constructed
+  tuple_rule number e =
+      let s = then_ok (tuple_at st.table number) _ r e in
+      let t = then_ok (matching_packed s.value types) _ r s.second in
+      subst (λ x. TupleRule st.table number types x) (ok_same _ r t.second) (record {
+        packed = s.value;
+        there = s.first;
+        tags = matching_tags 0 s.value.vars s.value.rows s.value.parts types t.value t.first;
+        makes = (refl, tt);
+      })
+
+  pub call_rule : (fun : ℕ) → rule st (operation.Call fun) types first ≡ Ok r → CallRule st.sigs fun types r
+  unfolding rule called
+  call_rule fun e =
+      let s = then_ok (or_fault NoTarget (slice_get st.sigs fun)) _ r e in
+      let sig = s.value in
+      let t = then_ok (matching 0 sig.vars sig.rows sig.params types) _ r s.second in
+      let all = t.value.values ++ variables_from sig.vars first sig.result_vars in
+      subst (λ x. CallRule st.sigs fun types x) (ok_same _ r t.second) (record {
+        sig = sig;
+        there = or_fault_ok NoTarget (slice_get st.sigs fun) sig s.first;
+        tags = matching_tags 0 sig.vars sig.rows sig.params types t.value t.first;
+        makes = result_tags sig.result (subst_ty all 0 sig.result) (λ u is. subst_tag all 0 sig.result u is);
+      })

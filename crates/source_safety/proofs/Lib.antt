@@ -1,0 +1,11 @@
+pub mod FaredOn
+pub mod Demanded
+pub mod RuleTags
+pub mod EffectsFare
+pub mod OneWords
+pub mod ValuesMade
+pub mod MatchTags
+pub mod BlockTags
+pub mod BlockRules
+pub mod BlocksFare
+pub mod ExpressionsFare

@@ -1,0 +1,21 @@
+//! What goes well where all goals hold.
+
+ghost use Rattle.std.specs.Prelude.{◌≡◌, ℤ, List, Ok};
+ghost use Rattle.operation_rules.specs.Sound.{IsSetting};
+ghost use Rattle.source_safety.specs.Standing.{GoalsHold, Stands, Gives, CallsFare, Fares};
+ghost use Rattle.state_types.specs.declared.types.Ty.{Ty};
+ghost use Rattle.typed_core.specs.Constructs.{setting_of};
+ghost use Rattle.typed_core.specs.Operands.{operand};
+ghost use Rattle.typed_core.specs.SourceOperands.{value};
+ghost use Rattle.typed_core.specs.SourceRuns.{Calls, Env, Run};
+ghost use Rattle.typed_core.specs.States.{Site, State};
+ghost use Rattle.xanadu_tree.specs.Plain as core;
+
+/// An expression that was elaborated, whose goals hold, goes well from where its state stands: no part of it is stuck, and its value has its type
+/// under an assignment that begins with the one before.
+pub fn expressions_fare<L>()
+    ensures { (site : Site) (call : Calls L) (env : Env) (e : core.Expr) (st more : State) (t : Ty) (assignment : List ℤ) (run : Run L)
+        → IsSetting (setting_of site) → CallsFare site.table site.sigs call → operand site e st ≡ Ok (t, more) → GoalsHold more.goals
+        → Stands site st env assignment run.store
+        → Fares (λ v (new : Run L). Gives site more env assignment run.store t v new.store) (value call env e run) }
+{}
