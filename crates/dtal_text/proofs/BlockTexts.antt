@@ -21,7 +21,7 @@ use Rattle.dtal_text.specs.declared.line.Stand.TheVariants as stand
 use Rattle.dtal_text.specs.LineReading.{stand_behind, behind_line, at_first}
 use Rattle.dtal_text.specs.ProgramReading.{Gathered, with_line, gathered, blocks_of, blocks}
 use Rattle.dtal_text.proofs.BodyTexts.{NotFirst, IsLastStand, Good, Passes, body_text, body_line, passes_from, passes_to, good_behind, first_good, IsBody, exact-lines}
-use Rattle.dtal_text.proofs.TypeTexts.{Anything}
+use Rattle.dtal_text.proofs.SpelledTypes.{Anything}
 
 -- ---- from lines to blocks
 

@@ -28,11 +28,11 @@ use Rattle.dtal_text.specs.declared.word.LineWord.TheVariants as line_word
 use Rattle.dtal_text.specs.declared.word.OpWord.{OpWord}
 use Rattle.dtal_text.specs.LineReading.{instrs_behind, label_may, words_at, words_where, stand_behind, behind_line, label_state, proof, instr_line, line_behind, line, at_first, lines}
 use Rattle.dtal_text.specs.OperandReading.{operands}
-use Rattle.dtal_text.proofs.ChainLaws.{IsChain, Ending, exact-chain}
+use Rattle.dtal_text.proofs.ChainedLists.{IsChain, Ending, exact-chain}
 use Rattle.dtal_text.proofs.LineWords.{line_word_text, word_some, Comes, MayCome, word_from, word_to, HasWords, exact-words}
 use Rattle.dtal_text.proofs.LabelTexts.{label_tail, exact-label_state, proof_tail, by_is, exact-proof}
 use Rattle.dtal_text.proofs.OperandTexts.{IsOperands, exact-operands, op_word_text, IsLastWord, made_way, has_word}
-use Rattle.dtal_text.proofs.TypeTexts.{Anything}
+use Rattle.dtal_text.proofs.SpelledTypes.{Anything}
 
 -- ---- states
 

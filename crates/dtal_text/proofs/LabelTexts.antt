@@ -31,7 +31,7 @@ use Rattle.dtal_text.proofs.ListingLaws.{spelled-rising, spelled-some_bounded}
 use Rattle.dtal_text.proofs.Operands.{register_text, slot_text}
 use Rattle.dtal_text.proofs.OperandTexts.{place_first, place_some}
 use Rattle.dtal_text.proofs.SpelledValues.{joined_by, spelled_two, spelled_made}
-use Rattle.dtal_text.proofs.TypeTexts.{Anything, spelled-type, IsQuantified, quantified_text, spelled-quantifier}
+use Rattle.dtal_text.proofs.SpelledTypes.{Anything, spelled-type, IsQuantified, quantified_text, spelled-quantifier}
 
 -- ---- a place from a number on
 

@@ -5,11 +5,11 @@ mod LowerNames
 mod Headers
 mod Whole
 mod Loops
-mod ChainLaws
+mod ChainedLists
 mod ChainLoops
 mod SpelledValues
 mod ListingLaws
-mod TypeTexts
+mod SpelledTypes
 mod OperandTexts
 mod LabelTexts
 mod LineWords

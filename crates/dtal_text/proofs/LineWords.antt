@@ -11,7 +11,7 @@ use Rattle.dtal_text.specs.declared.word.OpWord.{OpWord}
 use Rattle.dtal_text.specs.declared.word.OpWord.TheVariants as op_word
 use Rattle.dtal_text.specs.LineReading.{op_words, last_words, instr_words, where_it_may, words_in}
 use Rattle.dtal_text.proofs.OperandTexts.{op_word_text, IsLastWord}
-use Rattle.dtal_text.proofs.TypeTexts.{Anything}
+use Rattle.dtal_text.proofs.SpelledTypes.{Anything}
 
 unfoldable pub line_word_text : LineWord → List ℕ
 line_word_text (line_word.Op w) = op_word_text w

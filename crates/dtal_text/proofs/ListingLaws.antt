@@ -12,7 +12,7 @@ use Rattle.xan_read.specs.Spelled.{Any, Spelled}
 use Rattle.xan_read.proofs.ReaderLaws.{given, exact-made, exact-in_turn, exact-behind, exact-where_comes, exact_as, after_other}
 use Rattle.dtal_code.specs.Spelling.{each_behind, joined}
 use Rattle.dtal_text.specs.Listings.{item_or_mark, listed_item, listed_next, listing_at, listing, some_listing, always, same, unbounded, has_room, less_room, bounded, some_bounded, is_up_to, above, rising}
-use Rattle.dtal_text.proofs.ChainLaws.{IsChain, exact-chain}
+use Rattle.dtal_text.proofs.ChainedLists.{IsChain, exact-chain}
 
 -- what each item is may hang on those before it
 abbrev pub ListFits : {T B : Type 0} → (T → Bool) → (T → B → T) → (T → B → Type 0) → T → List B → Type 0

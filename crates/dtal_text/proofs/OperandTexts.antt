@@ -32,7 +32,7 @@ use Rattle.dtal_text.specs.TypeReading.{whole_form, any_number, type_number}
 use Rattle.dtal_text.proofs.ListingLaws.{spelled-bounded, spelled-rising}
 use Rattle.dtal_text.proofs.Operands.{exact-register, exact-place}
 use Rattle.dtal_text.proofs.SpelledValues.{joined_by, spelled_two, spelled_made}
-use Rattle.dtal_text.proofs.TypeTexts.{Anything, spelled-number, spelled-type_number, spelled-whole_form}
+use Rattle.dtal_text.proofs.SpelledTypes.{Anything, spelled-number, spelled-type_number, spelled-whole_form}
 
 -- ---- words
 

@@ -25,7 +25,7 @@ use Rattle.dtal_text.specs.TypeReading.{signature, type_line}
 use Rattle.dtal_text.proofs.BlockTexts.{BlocksFit, function_blocks, spelled-blocks}
 use Rattle.dtal_text.proofs.LowerNames.{lower_from, lower_to}
 use Rattle.dtal_text.proofs.SpelledValues.{joined_by, spelled_two, spelled_made}
-use Rattle.dtal_text.proofs.TypeTexts.{Anything, IsTypeLine, exact-type_line, spelled-signature}
+use Rattle.dtal_text.proofs.SpelledTypes.{Anything, IsTypeLine, exact-type_line, spelled-signature}
 
 -- ---- functions
 
