@@ -6,6 +6,7 @@
 //! and a function that gives what the reader gives. [`read_chain`] reads lists in which what an item may be hangs on those before it.
 #![tactic(auto)]
 
+mod bounded;
 mod chain;
 mod error;
 mod header;
@@ -16,11 +17,14 @@ mod mnemonic;
 mod program;
 #[cfg(test)]
 mod tests;
+mod unbounded;
 mod word;
 
+pub use bounded::Bounded;
 pub use chain::{Chained, read_chain};
 pub use error::StraightError;
 pub use laws::program_texts_are_read;
 pub use line::{BodyLine, Lines, Stand, Which};
 pub use program::read_straight;
+pub use unbounded::Unbounded;
 pub use word::{LineWord, OpWord, TyWord};
