@@ -6,6 +6,7 @@ ghost use Rattle.xanadu_parser.specs.Code.{Reads};
 ghost use Rattle.xanadu_parser.specs.Declarations as spec;
 
 use crate::index::{quantified, quantifier};
+use crate::room::push_closely;
 use crate::statements::block;
 use crate::stop::Stop;
 use crate::tokens::Tokens;
@@ -164,7 +165,7 @@ pub fn declarations(
         if tokens.left() == 0 {
             return Ok(found);
         }
-        found.push(declaration(alloc, tokens, room)?)?;
+        push_closely(&mut found, declaration(alloc, tokens, room)?)?;
     }
     Ok(found)
 }

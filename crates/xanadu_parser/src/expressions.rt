@@ -12,6 +12,7 @@ ghost use Rattle.xanadu_parser.specs.Nests.{Nests};
 ghost use Rattle.xanadu_parser.specs.Views.{behind_or, behind_and, behind_sign, behind_factor, in_brackets};
 
 use crate::operators::{eat_product_operator, eat_relation, eat_sum_operator};
+use crate::room::push_closely;
 use crate::stop::Stop;
 use crate::tokens::Tokens;
 use crate::types::element;
@@ -83,7 +84,7 @@ impl<F: Fn(Global, &mut Tokens<'_>, usize) -> Result<Expression, Stop>> Levels<F
             let Some(at) = tokens.eat_symbol(Symbol::Or) else {
                 return Ok(found);
             };
-            found.push((self.conjunction(tokens)?, at))?;
+            push_closely(&mut found, (self.conjunction(tokens)?, at))?;
         }
         Ok(found)
     }
@@ -113,7 +114,7 @@ impl<F: Fn(Global, &mut Tokens<'_>, usize) -> Result<Expression, Stop>> Levels<F
             let Some(at) = tokens.eat_symbol(Symbol::And) else {
                 return Ok(found);
             };
-            found.push((self.negation(tokens)?, at))?;
+            push_closely(&mut found, (self.negation(tokens)?, at))?;
         }
         Ok(found)
     }
@@ -184,7 +185,7 @@ impl<F: Fn(Global, &mut Tokens<'_>, usize) -> Result<Expression, Stop>> Levels<F
             let Some((op, at)) = eat_sum_operator(tokens) else {
                 return Ok(found);
             };
-            found.push((op, self.product(tokens)?, at))?;
+            push_closely(&mut found, (op, self.product(tokens)?, at))?;
         }
         Ok(found)
     }
@@ -214,7 +215,7 @@ impl<F: Fn(Global, &mut Tokens<'_>, usize) -> Result<Expression, Stop>> Levels<F
             let Some((op, at)) = eat_product_operator(tokens) else {
                 return Ok(found);
             };
-            found.push((op, self.unary(tokens)?, at))?;
+            push_closely(&mut found, (op, self.unary(tokens)?, at))?;
         }
         Ok(found)
     }
@@ -270,7 +271,7 @@ impl<F: Fn(Global, &mut Tokens<'_>, usize) -> Result<Expression, Stop>> Levels<F
             let Some(at) = tokens.eat_symbol(Symbol::LeftBracket) else {
                 return Ok(found);
             };
-            found.push(self.index(tokens, at)?)?;
+            push_closely(&mut found, self.index(tokens, at)?)?;
         }
         Ok(found)
     }
@@ -300,12 +301,12 @@ impl<F: Fn(Global, &mut Tokens<'_>, usize) -> Result<Expression, Stop>> Levels<F
         ensures { Reads (λ x. map plain_expression x.items) result tokens.new (spec.listed (spec.expression self.now.room) tokens.old) }
     {
         let mut found = Vec::new(self.alloc);
-        found.push(self.inner(tokens)?)?;
+        push_closely(&mut found, self.inner(tokens)?)?;
         for _turn in 0..tokens.left() {
             let Some(_) = tokens.eat_symbol(Symbol::Comma) else {
                 return Ok(found);
             };
-            found.push(self.inner(tokens)?)?;
+            push_closely(&mut found, self.inner(tokens)?)?;
         }
         Ok(found)
     }

@@ -11,6 +11,7 @@ ghost use Rattle.xanadu_parser.specs.Index as spec;
 
 use crate::lists::{Item, separated};
 use crate::operators::{eat_index_relation, eat_sign};
+use crate::room::push_closely;
 use crate::stop::Stop;
 use crate::tokens::Tokens;
 use std::alloc::Global;
@@ -43,7 +44,7 @@ fn terms(alloc: Global, tokens: &mut Tokens<'_>) -> Result<Vec<(Sign, IndexTerm)
         let Some((sign, _)) = eat_sign(tokens) else {
             return Ok(found);
         };
-        found.push((sign, term(tokens)?))?;
+        push_closely(&mut found, (sign, term(tokens)?))?;
     }
     Ok(found)
 }

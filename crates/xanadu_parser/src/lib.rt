@@ -13,6 +13,7 @@ mod lists;
 mod nesting;
 mod operators;
 mod parser;
+mod room;
 mod statements;
 mod stop;
 mod tokens;

@@ -8,6 +8,7 @@ ghost use Rattle.xan_read.specs.Symbols.{separated, take};
 ghost use Rattle.xanadu_lexer.specs.declared.symbol.Symbol.TheVariants as symbol;
 ghost use Rattle.xanadu_tree.specs.declared.tree.declaration.Identifier.{Identifier as Name};
 
+use crate::room::push_closely;
 use crate::stop::Stop;
 use crate::tokens::Tokens;
 use std::alloc::Global;
@@ -44,12 +45,12 @@ pub fn separated<T: Item>(alloc: Global, tokens: &mut Tokens<'_>) -> Result<Vec<
     ensures { Reads (λ x. map T.view x.items) result tokens.new (separated (mark symbol.Comma) T.reader tokens.old) }
 {
     let mut found = Vec::new(alloc);
-    found.push(T::read(alloc, tokens)?)?;
+    push_closely(&mut found, T::read(alloc, tokens)?)?;
     for _turn in 0..tokens.left() {
         let Some(_) = tokens.eat_symbol(Symbol::Comma) else {
             return Ok(found);
         };
-        found.push(T::read(alloc, tokens)?)?;
+        push_closely(&mut found, T::read(alloc, tokens)?)?;
     }
     Ok(found)
 }

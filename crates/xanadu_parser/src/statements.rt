@@ -8,6 +8,7 @@ ghost use Rattle.xanadu_parser.specs.Statements as spec;
 
 use crate::expressions::{arguments, expression, indices};
 use crate::lists::separated;
+use crate::room::push_closely;
 use crate::stop::Stop;
 use crate::tokens::Tokens;
 use crate::types::clause_behind;
@@ -246,7 +247,7 @@ fn statements(alloc: Global, tokens: &mut Tokens<'_>, room: usize) -> Result<Vec
         if let Some(_) = tokens.eat_symbol(Symbol::RightBrace) {
             return Ok(found);
         }
-        found.push(statement(alloc, tokens, room)?)?;
+        push_closely(&mut found, statement(alloc, tokens, room)?)?;
     }
     Err(tokens.fault())
 }

@@ -16,7 +16,7 @@ returns-in_err-declaration c =
 pub loop-turn-preserved : goal.loop-turn-preserved
 loop-turn-preserved c =
     one_declaration c.args.room (c.left-turn-end.result - c.loop-turn._turn) _ _ c.loop-turn.tokens _ _ _ _ (omega arith) (omega arith) c.in_ok-declaration.ensures
-    (seen plain_declaration _ _ _ c.in_ok-push.ensures.items) c.loop-turn.invariant
+    (seen plain_declaration _ _ _ c.in_ok-push_closely.ensures.items) c.loop-turn.invariant
 
 pub returns : goal.returns
 returns c = none_left c.args.room _ _ c.loop-turn.tokens _ (omega arith) c.loop-turn.invariant

@@ -15,7 +15,7 @@ returns-in_err-term c =
 
 pub loop-turn-preserved : goal.loop-turn-preserved
 loop-turn-preserved c =
-    more (symbol_among sign) signed (c.left-turn-end.result - c.loop-turn._turn) _ _ _ _ _ _ _ _ _ (omega arith) c.in-Some.ensures (rw c.in_ok-term.ensures refl) c.in_ok-push.ensures.items c.loop-turn.invariant
+    more (symbol_among sign) signed (c.left-turn-end.result - c.loop-turn._turn) _ _ _ _ _ _ _ _ _ (omega arith) c.in-Some.ensures (rw c.in_ok-term.ensures refl) c.in_ok-push_closely.ensures.items c.loop-turn.invariant
 
 pub returns : goal.returns
 returns c = full (symbol_among sign) signed _ _ _ _ (omega arith) c.loop-turn.invariant

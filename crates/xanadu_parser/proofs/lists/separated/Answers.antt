@@ -15,7 +15,7 @@ returns-in_err-read-2 g c =
 
 pub loop-turn-preserved : goal.loop-turn-preserved
 loop-turn-preserved g c =
-    more (mark symbol.Comma) (λ _. g.T.Item.reader) (c.left-turn-end.result - c.loop-turn._turn) _ _ _ _ _ _ _ _ _ (omega arith) c.in-Some.ensures c.in_ok-read-2.ensures (seen g.T.Item.view _ _ _ c.in_ok-push-2.ensures.items) c.loop-turn.invariant
+    more (mark symbol.Comma) (λ _. g.T.Item.reader) (c.left-turn-end.result - c.loop-turn._turn) _ _ _ _ _ _ _ _ _ (omega arith) c.in-Some.ensures c.in_ok-read-2.ensures (seen g.T.Item.view _ _ _ c.in_ok-push_closely-2.ensures.items) c.loop-turn.invariant
 
 pub returns : goal.returns
 returns g c = full (mark symbol.Comma) (λ _. g.T.Item.reader) _ _ _ _ (omega arith) c.loop-turn.invariant

@@ -19,7 +19,7 @@ statements-returns-in_err-statement t c =
 pub statements-loop-turn-preserved : goal.statements-loop-turn-preserved
 statements-loop-turn-preserved t c =
     until_more (mark symbol.RightBrace) (spec.statement c.args.room (spec.block c.args.room)) (c.left-turn-end.result - c.loop-turn._turn) _ _ _ _ _ _ _ _ (omega arith) c.in_default.ensures c.in_ok-statement.ensures
-    (seen plain_statement _ _ _ c.in_ok-push.ensures.items) c.loop-turn.invariant
+    (seen plain_statement _ _ _ c.in_ok-push_closely.ensures.items) c.loop-turn.invariant
 
 pub statements-returns : goal.statements-returns
 statements-returns t c = rw c.fault.ensures (until_full (mark symbol.RightBrace) (spec.statement c.args.room (spec.block c.args.room)) _ _ _ _ (omega arith) c.loop-turn.invariant)

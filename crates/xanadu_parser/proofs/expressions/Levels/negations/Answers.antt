@@ -17,7 +17,7 @@ returns-in_err-negation g c =
 
 pub loop-turn-preserved : goal.loop-turn-preserved
 loop-turn-preserved g c =
-    more (mark symbol.And) (spec.one_negation (spec.expression c.args.self.now.room)) (c.left-turn-end.result - c.loop-turn._turn) _ _ _ _ _ _ _ _ _ (omega arith) c.in-Some.ensures (rw c.in_ok-negation.ensures refl) (seen behind_and _ _ _ c.in_ok-push.ensures.items) c.loop-turn.invariant
+    more (mark symbol.And) (spec.one_negation (spec.expression c.args.self.now.room)) (c.left-turn-end.result - c.loop-turn._turn) _ _ _ _ _ _ _ _ _ (omega arith) c.in-Some.ensures (rw c.in_ok-negation.ensures refl) (seen behind_and _ _ _ c.in_ok-push_closely.ensures.items) c.loop-turn.invariant
 
 pub returns : goal.returns
 returns g c = full (mark symbol.And) (spec.one_negation (spec.expression c.args.self.now.room)) _ _ _ _ (omega arith) c.loop-turn.invariant

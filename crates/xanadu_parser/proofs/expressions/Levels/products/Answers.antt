@@ -16,7 +16,7 @@ returns-in_err-product g c =
 
 pub loop-turn-preserved : goal.loop-turn-preserved
 loop-turn-preserved g c =
-    more (symbol_among sum_operator) (spec.one_product (spec.expression c.args.self.now.room)) (c.left-turn-end.result - c.loop-turn._turn) _ _ _ _ _ _ _ _ _ (omega arith) c.in-Some.ensures (rw c.in_ok-product.ensures refl) (seen behind_sign _ _ _ c.in_ok-push.ensures.items) c.loop-turn.invariant
+    more (symbol_among sum_operator) (spec.one_product (spec.expression c.args.self.now.room)) (c.left-turn-end.result - c.loop-turn._turn) _ _ _ _ _ _ _ _ _ (omega arith) c.in-Some.ensures (rw c.in_ok-product.ensures refl) (seen behind_sign _ _ _ c.in_ok-push_closely.ensures.items) c.loop-turn.invariant
 
 pub returns : goal.returns
 returns g c = full (symbol_among sum_operator) (spec.one_product (spec.expression c.args.self.now.room)) _ _ _ _ (omega arith) c.loop-turn.invariant
