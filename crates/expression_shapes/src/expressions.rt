@@ -141,7 +141,7 @@ fn addends(
 ) -> Result<Vec<(Op, CoreExpr, u32)>, ShapeError>
     ensures { Gives (λ x. map link_of x.items) result (spec.addends (globals_of site.now.globals.now) (locals_of site.now.locals.now) (addends_of rest.now) []) }
 {
-    let mut links = Vec::new(site.alloc);
+    let mut links = Vec::with_capacity(site.alloc, rest.len())?;
     for (op, one, at) in rest {
         let typed = product(one, site)?;
         let operand = check_kind(Kind::Int, place_of_product(one), typed)?;
@@ -174,7 +174,7 @@ fn factors(
 ) -> Result<Vec<(Op, CoreExpr, u32)>, ShapeError>
     ensures { Gives (λ x. map link_of x.items) result (spec.factors (globals_of site.now.globals.now) (locals_of site.now.locals.now) (factors_of rest.now) []) }
 {
-    let mut links = Vec::new(site.alloc);
+    let mut links = Vec::with_capacity(site.alloc, rest.len())?;
     for (op, one, at) in rest {
         let typed = unary(one, site)?;
         let operand = check_kind(Kind::Int, place_of_unary(one), typed)?;
@@ -307,7 +307,7 @@ fn arguments(
 ) -> Result<Vec<CoreExpr>, ShapeError>
     ensures { Gives (λ x. map plain_expr x.items) result (spec.arguments (globals_of site.now.globals.now) (locals_of site.now.locals.now) (plain_expressions given.now) types.now 0 []) }
 {
-    let mut args = Vec::new(site.alloc);
+    let mut args = Vec::with_capacity(site.alloc, given.len())?;
     let mut place = 0;
     for argument in given {
         let typed = expression(argument, site)?;
