@@ -15,6 +15,7 @@ mod laws;
 mod line;
 mod mnemonic;
 mod program;
+mod tables;
 #[cfg(test)]
 mod tests;
 mod unbounded;
