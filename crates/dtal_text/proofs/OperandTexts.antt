@@ -334,36 +334,36 @@ pub record HasWord (v : Way) : Type 0 where
   pub last : is_last v.0 ≡ true → IsLastWord kind
 
 abbrev way : Op → List (ℕ × Linear) → Way
-way o edge = (o, edge)
+way o values = (o, values)
 
 module _ {A : Type 0} (w : OpWord) (make : A → Op) (Fits : A → Type 0) (text : A → List ℕ) where
-  has_plain : (x : A) (edge : List (ℕ × Linear)) → Fits x → edge ≡ [] → IsPlain make Fits text (way (make x) edge) (text x)
-  has_plain x edge h e = record { value = x; made = ap (way (make x)) e; is = record { known = tt; fits = h; is = refl } }
+  has_plain : (x : A) (values : List (ℕ × Linear)) → Fits x → values ≡ [] → IsPlain make Fits text (way (make x) values) (text x)
+  has_plain x values h e = record { value = x; made = ap (way (make x)) e; is = record { known = tt; fits = h; is = refl } }
 
-  has_going : (x : A) (edge : List (ℕ × Linear)) → Fits x → IsEdge edge → IsGoing make Fits text (way (make x) edge) (joined_by text (codes " ") edge_text (x, edge))
-  has_going x edge h e = record { value = (x, edge); made = refl; is = record { known = tt; fits = (h, e); is = refl } }
+  has_going : (x : A) (values : List (ℕ × Linear)) → Fits x → IsEdge values → IsGoing make Fits text (way (make x) values) (joined_by text (codes " ") edge_text (x, values))
+  has_going x values h e = record { value = (x, values); made = refl; is = record { known = tt; fits = (h, e); is = refl } }
 
-pub has_word : (o : Op) (edge : List (ℕ × Linear)) → IsOpIn o → IsWay (has_edge o) edge → HasWord (way o edge)
+pub has_word : (o : Op) (values : List (ℕ × Linear)) → IsOpIn o → IsWay (has_edge o) values → HasWord (way o values)
 unfolding IsOperands IsLastWord
-has_word (op.Li rd n) edge h e = record { kind = word_of.Li; text = _; are = has_plain word_of.Li (λ x. op.Li x.0 x.1) _ _ (rd, n) edge h e; last = λ never. absurd cc }
-has_word (op.Lb rd b) edge h e = record { kind = word_of.Lb; text = _; are = has_plain word_of.Lb (λ x. op.Lb x.0 x.1) _ _ (rd, b) edge (h, tt) e; last = λ never. absurd cc }
-has_word (op.Mv p q) edge h e = record { kind = word_of.Mv; text = _; are = has_plain word_of.Mv (λ x. op.Mv x.0 x.1) _ _ (p, q) edge h e; last = λ never. absurd cc }
-has_word (op.Add rd ra rb) edge h e = record { kind = word_of.Add; text = _; are = has_plain word_of.Add (λ x. op.Add x.0 x.1.0 x.1.1) _ _ (rd, (ra, rb)) edge (h.0, (h.1, h.2)) e; last = λ never. absurd cc }
-has_word (op.Sub rd ra rb) edge h e = record { kind = word_of.Sub; text = _; are = has_plain word_of.Sub (λ x. op.Sub x.0 x.1.0 x.1.1) _ _ (rd, (ra, rb)) edge (h.0, (h.1, h.2)) e; last = λ never. absurd cc }
-has_word (op.Mul rd ra rb) edge h e = record { kind = word_of.Mul; text = _; are = has_plain word_of.Mul (λ x. op.Mul x.0 x.1.0 x.1.1) _ _ (rd, (ra, rb)) edge (h.0, (h.1, h.2)) e; last = λ never. absurd cc }
-has_word (op.Div rd ra rb) edge h e = record { kind = word_of.Div; text = _; are = has_plain word_of.Div (λ x. op.Div x.0 x.1.0 x.1.1) _ _ (rd, (ra, rb)) edge (h.0, (h.1, h.2)) e; last = λ never. absurd cc }
-has_word (op.Mod rd ra rb) edge h e = record { kind = word_of.Mod; text = _; are = has_plain word_of.Mod (λ x. op.Mod x.0 x.1.0 x.1.1) _ _ (rd, (ra, rb)) edge (h.0, (h.1, h.2)) e; last = λ never. absurd cc }
-has_word (op.Set c rd ra rb) edge h e = record { kind = word_of.Set; text = _; are = has_plain word_of.Set (λ x. op.Set x.0 x.1.0 x.1.1.0 x.1.1.1) _ _ (c, (rd, (ra, rb))) edge (tt, (h.0, (h.1, h.2))) e; last = λ never. absurd cc }
-has_word (op.Br c ra rb label) edge h e = record { kind = word_of.Br; text = _; are = has_going word_of.Br (λ x. op.Br x.0 x.1.0.0 x.1.0.1 x.1.1) _ _ (c, ((ra, rb), label)) edge (tt, ((h.0, h.1), h.2)) e; last = λ never. absurd cc }
-has_word (op.Bt ra label) edge h e = record { kind = word_of.Bt; text = _; are = has_going word_of.Bt (λ x. op.Bt x.0 x.1) _ _ (ra, label) edge h e; last = λ never. absurd cc }
-has_word (op.Bf ra label) edge h e = record { kind = word_of.Bf; text = _; are = has_going word_of.Bf (λ x. op.Bf x.0 x.1) _ _ (ra, label) edge h e; last = λ never. absurd cc }
-has_word (op.Jmp label) edge h e = record { kind = word_of.Jmp; text = _; are = has_going word_of.Jmp (λ l. op.Jmp l) _ _ label edge h e; last = λ _. tt }
-has_word (op.Call fun p args) edge h e = record { kind = word_of.Call; text = _; are = has_plain word_of.Call (λ x. op.Call x.0 x.1.0 x.1.1) _ _ (fun, (p, args)) edge (h.0, (h.1, h.2)) e; last = λ never. absurd cc }
-has_word (op.Ret p) edge h e = record { kind = word_of.Ret; text = _; are = has_plain word_of.Ret (λ q. op.Ret q) _ _ p edge h e; last = λ _. tt }
-has_word (op.Len rd ra) edge h e = record { kind = word_of.Len; text = _; are = has_plain word_of.Len (λ x. op.Len x.0 x.1) _ _ (rd, ra) edge h e; last = λ never. absurd cc }
-has_word (op.Ld rd ra ri) edge h e = record { kind = word_of.Ld; text = _; are = has_plain word_of.Ld (λ x. op.Ld x.0 x.1.0 x.1.1) _ _ (rd, (ra, ri)) edge (h.0, (h.1, h.2)) e; last = λ never. absurd cc }
-has_word (op.St ra ri rv) edge h e = record { kind = word_of.St; text = _; are = has_plain word_of.St (λ x. op.St x.0 x.1.0 x.1.1) _ _ (ra, (ri, rv)) edge (h.0, (h.1, h.2)) e; last = λ never. absurd cc }
-has_word (op.New rd cells rn rv) edge h e = record { kind = word_of.New; text = _; are = has_plain word_of.New (λ x. op.New x.0 x.1.0 x.1.1.0 x.1.1.1) _ _ (rd, (cells, (rn, rv))) edge (h.0, (h.1, (h.2, h.3))) e; last = λ never. absurd cc }
-has_word (op.Tup p number parts) edge h e = record { kind = word_of.Tup; text = _; are = has_plain word_of.Tup (λ x. op.Tup x.0 x.1.0 x.1.1) _ _ (p, (number, parts)) edge (h.0, (h.1, h.2)) e; last = λ never. absurd cc }
-has_word (op.Untup number q parts) edge h e = record { kind = word_of.Untup; text = _; are = has_plain word_of.Untup (λ x. op.Untup x.0 x.1.0 x.1.1) _ _ (number, (q, parts)) edge (h.0, (h.1, h.2)) e; last = λ never. absurd cc }
-has_word (op.Print ra) edge h e = record { kind = word_of.Print; text = _; are = has_plain word_of.Print (λ r. op.Print r) _ _ ra edge h e; last = λ never. absurd cc }
+has_word (op.Li rd n) values h e = record { kind = word_of.Li; text = _; are = has_plain word_of.Li (λ x. op.Li x.0 x.1) _ _ (rd, n) values h e; last = λ never. absurd cc }
+has_word (op.Lb rd b) values h e = record { kind = word_of.Lb; text = _; are = has_plain word_of.Lb (λ x. op.Lb x.0 x.1) _ _ (rd, b) values (h, tt) e; last = λ never. absurd cc }
+has_word (op.Mv p q) values h e = record { kind = word_of.Mv; text = _; are = has_plain word_of.Mv (λ x. op.Mv x.0 x.1) _ _ (p, q) values h e; last = λ never. absurd cc }
+has_word (op.Add rd ra rb) values h e = record { kind = word_of.Add; text = _; are = has_plain word_of.Add (λ x. op.Add x.0 x.1.0 x.1.1) _ _ (rd, (ra, rb)) values (h.0, (h.1, h.2)) e; last = λ never. absurd cc }
+has_word (op.Sub rd ra rb) values h e = record { kind = word_of.Sub; text = _; are = has_plain word_of.Sub (λ x. op.Sub x.0 x.1.0 x.1.1) _ _ (rd, (ra, rb)) values (h.0, (h.1, h.2)) e; last = λ never. absurd cc }
+has_word (op.Mul rd ra rb) values h e = record { kind = word_of.Mul; text = _; are = has_plain word_of.Mul (λ x. op.Mul x.0 x.1.0 x.1.1) _ _ (rd, (ra, rb)) values (h.0, (h.1, h.2)) e; last = λ never. absurd cc }
+has_word (op.Div rd ra rb) values h e = record { kind = word_of.Div; text = _; are = has_plain word_of.Div (λ x. op.Div x.0 x.1.0 x.1.1) _ _ (rd, (ra, rb)) values (h.0, (h.1, h.2)) e; last = λ never. absurd cc }
+has_word (op.Mod rd ra rb) values h e = record { kind = word_of.Mod; text = _; are = has_plain word_of.Mod (λ x. op.Mod x.0 x.1.0 x.1.1) _ _ (rd, (ra, rb)) values (h.0, (h.1, h.2)) e; last = λ never. absurd cc }
+has_word (op.Set c rd ra rb) values h e = record { kind = word_of.Set; text = _; are = has_plain word_of.Set (λ x. op.Set x.0 x.1.0 x.1.1.0 x.1.1.1) _ _ (c, (rd, (ra, rb))) values (tt, (h.0, (h.1, h.2))) e; last = λ never. absurd cc }
+has_word (op.Br c ra rb label) values h e = record { kind = word_of.Br; text = _; are = has_going word_of.Br (λ x. op.Br x.0 x.1.0.0 x.1.0.1 x.1.1) _ _ (c, ((ra, rb), label)) values (tt, ((h.0, h.1), h.2)) e; last = λ never. absurd cc }
+has_word (op.Bt ra label) values h e = record { kind = word_of.Bt; text = _; are = has_going word_of.Bt (λ x. op.Bt x.0 x.1) _ _ (ra, label) values h e; last = λ never. absurd cc }
+has_word (op.Bf ra label) values h e = record { kind = word_of.Bf; text = _; are = has_going word_of.Bf (λ x. op.Bf x.0 x.1) _ _ (ra, label) values h e; last = λ never. absurd cc }
+has_word (op.Jmp label) values h e = record { kind = word_of.Jmp; text = _; are = has_going word_of.Jmp (λ l. op.Jmp l) _ _ label values h e; last = λ _. tt }
+has_word (op.Call fun p args) values h e = record { kind = word_of.Call; text = _; are = has_plain word_of.Call (λ x. op.Call x.0 x.1.0 x.1.1) _ _ (fun, (p, args)) values (h.0, (h.1, h.2)) e; last = λ never. absurd cc }
+has_word (op.Ret p) values h e = record { kind = word_of.Ret; text = _; are = has_plain word_of.Ret (λ q. op.Ret q) _ _ p values h e; last = λ _. tt }
+has_word (op.Len rd ra) values h e = record { kind = word_of.Len; text = _; are = has_plain word_of.Len (λ x. op.Len x.0 x.1) _ _ (rd, ra) values h e; last = λ never. absurd cc }
+has_word (op.Ld rd ra ri) values h e = record { kind = word_of.Ld; text = _; are = has_plain word_of.Ld (λ x. op.Ld x.0 x.1.0 x.1.1) _ _ (rd, (ra, ri)) values (h.0, (h.1, h.2)) e; last = λ never. absurd cc }
+has_word (op.St ra ri rv) values h e = record { kind = word_of.St; text = _; are = has_plain word_of.St (λ x. op.St x.0 x.1.0 x.1.1) _ _ (ra, (ri, rv)) values (h.0, (h.1, h.2)) e; last = λ never. absurd cc }
+has_word (op.New rd cells rn rv) values h e = record { kind = word_of.New; text = _; are = has_plain word_of.New (λ x. op.New x.0 x.1.0 x.1.1.0 x.1.1.1) _ _ (rd, (cells, (rn, rv))) values (h.0, (h.1, (h.2, h.3))) e; last = λ never. absurd cc }
+has_word (op.Tup p number parts) values h e = record { kind = word_of.Tup; text = _; are = has_plain word_of.Tup (λ x. op.Tup x.0 x.1.0 x.1.1) _ _ (p, (number, parts)) values (h.0, (h.1, h.2)) e; last = λ never. absurd cc }
+has_word (op.Untup number q parts) values h e = record { kind = word_of.Untup; text = _; are = has_plain word_of.Untup (λ x. op.Untup x.0 x.1.0 x.1.1) _ _ (number, (q, parts)) values (h.0, (h.1, h.2)) e; last = λ never. absurd cc }
+has_word (op.Print ra) values h e = record { kind = word_of.Print; text = _; are = has_plain word_of.Print (λ r. op.Print r) _ _ ra values h e; last = λ never. absurd cc }
