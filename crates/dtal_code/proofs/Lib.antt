@@ -10,3 +10,5 @@ pub mod ArraySums
 pub mod ArraySumText
 mod CodeRuns
 pub mod Appended
+mod WordBytes
+mod Codings

@@ -18,3 +18,4 @@ pub mod Safety
 pub mod Fitting
 pub mod ObjectWords
 pub mod Printed
+pub mod Guessed

@@ -1,6 +1,7 @@
 ghost use Rattle.std.specs.Prelude.{◌≡◌, ℕ, List, Option, Ok};
 ghost use Rattle.xan_io.specs.Agreement.{IsSteady};
 ghost use Rattle.state_types.specs.declared.state.StateType.{StateType};
+ghost use Rattle.dtal_code.specs.declared.object.RunOp.{RunOp};
 ghost use Rattle.dtal_code.specs.declared.op.Op.{Op};
 ghost use Rattle.dtal_code.specs.declared.program.DtalProgram.{DtalProgram};
 ghost use Rattle.dtal_code.specs.declared.straight.Straight.{Straight};
@@ -9,6 +10,7 @@ ghost use Rattle.dtal_code.specs.Entry.{outcome_from};
 ghost use Rattle.dtal_code.specs.Grammar.{InGrammar};
 ghost use Rattle.dtal_code.specs.Machine.{State};
 ghost use Rattle.dtal_code.specs.ObjectCode.{Code};
+ghost use Rattle.dtal_code.specs.ObjectWords.{IsPair};
 ghost use Rattle.dtal_code.specs.Refusing.{verified};
 ghost use Rattle.dtal_code.specs.Runs as program;
 ghost use Rattle.dtal_code.specs.Text.{Spells};
@@ -36,4 +38,9 @@ pub fn accepted_programs_are_verified()
 /// A run of a program's object code is steady.
 pub fn object_runs_are_steady()
     ensures { (code : Code) (entry : Option State) → IsSteady (program.outcome_from code entry) }
+{}
+
+/// Two words code at most one instruction.
+pub fn pairs_code_one_instruction()
+    ensures { (first second : ℕ) (o p : RunOp) → IsPair first second o → IsPair first second p → o ≡ p }
 {}

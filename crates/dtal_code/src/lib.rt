@@ -7,6 +7,8 @@
 //! one program. It stands on `operation_rules` and `proof_lines`, with what these stand on.
 #![tactic(auto)]
 
+mod coding;
+mod decoding;
 pub mod instruction;
 mod instruction_text;
 mod laws;
@@ -22,10 +24,12 @@ mod straight;
 mod straight_text;
 mod type_text;
 
+pub use coding::encode;
+pub use decoding::decode;
 pub use instruction::{Cmp, Instr};
 pub use laws::{
     accepted_programs_are_verified, object_runs_are_steady, one_program_a_text,
-    straight_runs_are_steady, what_is_not_refused_is_accepted,
+    pairs_code_one_instruction, straight_runs_are_steady, what_is_not_refused_is_accepted,
 };
 pub use object::{Object, RunOp};
 pub use op::Op;
