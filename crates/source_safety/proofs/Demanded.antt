@@ -67,7 +67,7 @@ entailed_hold assignment context rows hold all = λ k d h. (all k d h).follows a
 
 -- ---- an operation
 
-by_rule_ok : {A : Type 0} (m : Ruling A) (x : A) → by_rule m ≡ Ok x → m ≡ Ok x
+pub by_rule_ok : {A : Type 0} (m : Ruling A) (x : A) → by_rule m ≡ Ok x → m ≡ Ok x
 by_rule_ok (Ok y) x e = ap (λ z. let r : Ruling _ = Ok z in r) (ok_same y x e)
 by_rule_ok (Err f) x e = absurd (let bad : ⊥ = cc in bad)
 

@@ -9,3 +9,5 @@ pub mod BlockTags
 pub mod BlockRules
 pub mod BlocksFare
 pub mod ExpressionsFare
+pub mod BranchesFare
+pub mod TestsFare

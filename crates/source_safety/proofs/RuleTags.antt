@@ -8,7 +8,7 @@ use Rattle.state_types.proofs.Thens.{then_ok, ok_same}
 use Rattle.operation_rules.specs.Applied.{all_given}
 use Rattle.operation_rules.specs.Faults.{Ruling, needed}
 use Rattle.operation_rules.specs.Forms.{constant_form, number_of}
-use Rattle.operation_rules.specs.Rules.{Setting, gives, gives_number, product, no_types, one_type, as_array, two_numbers, quotient, remainder, measured, rule}
+use Rattle.operation_rules.specs.Rules.{Setting, gives, gives_number, product, no_types, one_type, as_array, two_numbers, quotient, remainder, measured, rule, as_truth}
 use Rattle.operation_rules.specs.declared.operation.Operation.TheVariants as operation
 use Rattle.operation_rules.specs.declared.rule.Rule.{Rule}
 use Rattle.operation_rules.proofs.WordsRead.{no_types_is, one_type_is, as_array_is, two_numbers_is}
@@ -72,6 +72,12 @@ numbers_taken types p e = sym (ap tags_for (two_numbers_is types p e))
 none_taken : (types : List Ty) (u : Unit {0}) → no_types types ≡ Ok u → [] ≡ tags_for types
 unfolding tags_for
 none_taken types u e = sym (ap tags_for (no_types_is types u e))
+
+as_truth_is : (t : Ty) (u : Unit {0}) → as_truth t ≡ Ok u → t ≡ ty.Bool
+as_truth_is (ty.Int g) u e = absurd (let bad : ⊥ = cc in bad)
+as_truth_is ty.Bool u e = refl
+as_truth_is (ty.Array q g) u e = absurd (let bad : ⊥ = cc in bad)
+as_truth_is (ty.Named q) u e = absurd (let bad : ⊥ = cc in bad)
 
 -- ---- each operation that gives a value
 
@@ -141,3 +147,19 @@ module _ (st : Setting) (first : ℕ) (types : List Ty) (r : Rule) where
       let t = then_ok (as_array s.value) _ r s.second in
       let is : types ≡ ty.Array t.value.0 t.value.1 ∷ [] = one_type_is types s.value s.first ∙ ap (λ x. x ∷ []) (as_array_is s.value t.value t.first) in
       by_rule_made (λ r. Tags (Array ∷ []) Number types r × IsFree r) _ r t.second (record { takes = sym (ap tags_for is); makes = (refl, tt) }, refl)
+
+  -- ---- branches
+
+  pub branch_tags : (c : ℕ) → rule st (operation.Branch c) types first ≡ Ok r → (Number ∷ Number ∷ [] ≡ tags_for types) × IsFree r
+  unfolding rule
+  branch_tags c e =
+      let s = then_ok (two_numbers types) _ r e in
+      by_rule_made (λ r. (Number ∷ Number ∷ [] ≡ tags_for types) × IsFree r) (gives [] []) r s.second (numbers_taken types s.value s.first, refl)
+
+  pub branch_truth_tags : (b : Truth) → rule st (operation.BranchTruth b) types first ≡ Ok r → (Flag ∷ [] ≡ tags_for types) × IsFree r
+  unfolding rule tags_for
+  branch_truth_tags b e =
+      let s = then_ok (one_type types) _ r e in
+      let t = then_ok (as_truth s.value) _ r s.second in
+      by_rule_made (λ r. (Flag ∷ [] ≡ tags_for types) × IsFree r) (gives [] []) r t.second
+      (sym (ap tags_for (one_type_is types s.value s.first ∙ ap (λ x. x ∷ []) (as_truth_is s.value t.value t.first))), refl)

@@ -103,7 +103,7 @@ module _ {L : Type 0} (site : Site) (setting : IsSetting (setting_of site)) (env
           free_fares (u ∷ w ∷ []) st t more assignment run (a ∷ b ∷ []) it None (operation.Compare c) (Number ∷ Number ∷ []) Flag is
           (λ r e. compare_tags (setting_of site) st.ctx.vars (u ∷ w ∷ []) r c e) (λ tag. compare_one Flag t tag site.table run it.stands.holds.tagged c a b)
 
-    turned_operands : (u w : Ty) (a b : Value) → Operands site st env assignment run.store (u ∷ w ∷ []) (a ∷ b ∷ []) → Operands site st env assignment run.store (w ∷ u ∷ []) (b ∷ a ∷ [])
+    pub turned_operands : (u w : Ty) (a b : Value) → Operands site st env assignment run.store (u ∷ w ∷ []) (a ∷ b ∷ []) → Operands site st env assignment run.store (w ∷ u ∷ []) (b ∷ a ∷ [])
     turned_operands u w a b it = record {
       stands = it.stands;
       have = (it.have.1.0, (it.have.0, tt));

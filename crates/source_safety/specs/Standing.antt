@@ -1,6 +1,6 @@
 -- What holds where a run of a source stands: its variables, its store and an assignment of the index variables so far fit the state that
 -- is elaborated there.
-use Rattle.std.specs.Prelude.{◌≡◌, ◌≤◌, ℕ, ℤ, List, ◌++◌, length, slice_get, Some, Ok, Err}
+use Rattle.std.specs.Prelude.{◌≡◌, ◌≤◌, ℕ, ℤ, List, ◌++◌, length, slice_get, Some, Ok, Err, Bool, true, false}
 use Rattle.std.specs.List.{All}
 use Rattle.index_sorts.specs.Entails.{Entails, AllHold}
 use Rattle.state_types.specs.Types.{TypeBelow}
@@ -14,6 +14,7 @@ use Rattle.typed_core.specs.Growth.{Continues, NamesSoFar}
 use Rattle.typed_core.specs.SourceRuns.{Run, Answer, Env, Calls}
 use Rattle.typed_core.specs.SourceValues.{Value, Blocks}
 use Rattle.typed_core.specs.States.{Site, State}
+use Rattle.typed_core.specs.Tests.{Sides, on_side}
 use Rattle.source_safety.specs.Values.{headers_of, HasValue, HaveValues, StoreHolds}
 
 -- ---- before
@@ -64,6 +65,13 @@ By P (Err end) = EndsWell end.how
 
 pub record Fares {L A : Type 0} (P : A → Run L → Type 0) (answer : Answer L A) : Type 0 where
   pub is : By P answer
+
+-- ---- tests
+
+-- where a test was so: the rows of this side hold
+abbrev pub side_state : Bool → Sides → State
+side_state true sides = on_side sides.on_true sides.after
+side_state false sides = on_side sides.on_false sides.after
 
 -- ---- calls
 
