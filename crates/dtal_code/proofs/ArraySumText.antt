@@ -68,21 +68,51 @@ proof_in = All-from_recursion AreLinesIn proof ((record { some = lit≤ tt; few 
 
 first_code : IsCode first_block.code
 first_code = record {
-  instrs = All-from_recursion IsInstr first_block.code ((plain_in (op.Li 1 (pos 0)) refl (lit< tt, number_fits)), ((plain_in (op.Li 2 (pos 0)) refl (lit< tt, number_fits)), ((record {
-    op = lit≤ tt;
-    way = record { rise = (lit≤ tt, (lit≤ tt, tt)); are = All-from_recursion IsValue ((1, number (pos 0)) ∷ (2, number (pos 0)) ∷ []) ((lit≤ tt, zero_in), ((lit≤ tt, zero_in), tt)) };
-    by = All-nil AreLinesIn;
-  }), tt)));
+  instrs = All-from_recursion IsInstr first_block.code (
+    (plain_in (op.Li 1 (pos 0)) refl (lit< tt, number_fits)),
+    (
+      (plain_in (op.Li 2 (pos 0)) refl (lit< tt, number_fits)),
+      (
+        (record {
+          op = lit≤ tt;
+          way = record { rise = (lit≤ tt, (lit≤ tt, tt)); are = All-from_recursion IsValue ((1, number (pos 0)) ∷ (2, number (pos 0)) ∷ []) ((lit≤ tt, zero_in), ((lit≤ tt, zero_in), tt)) };
+          by = All-nil AreLinesIn;
+        }),
+        tt,
+      ),
+    ),
+  );
   ends = refl;
 }
 
 loop_code : IsCode (loop_block (variable_and 1 (pos 1)) proof).code
 loop_code = record {
-  instrs = All-from_recursion IsInstr (loop_block (variable_and 1 (pos 1)) proof).code ((plain_in (op.Len 3 0) refl (lit< tt, lit< tt)), ((record { op = (lit< tt, lit< tt, lit≤ tt); way = record { rise = tt; are = All-nil IsValue }; by = All-nil AreLinesIn }), ((plain_in (op.Ld 3 0 1) refl (lit< tt, lit< tt, lit< tt)), ((plain_in (op.Add 2 2 3) refl (lit< tt, lit< tt, lit< tt)), ((plain_in (op.Li 3 (pos 1)) refl (lit< tt, one_fits)), ((plain_in (op.Add 1 1 3) refl (lit< tt, lit< tt, lit< tt)), ((record {
-    op = lit≤ tt;
-    way = record { rise = (lit≤ tt, (lit≤ tt, tt)); are = All-from_recursion IsValue ((1, variable_and 1 (pos 1)) ∷ (2, sum) ∷ []) ((lit≤ tt, next_in), ((lit≤ tt, sum_in), tt)) };
-    by = proof_in;
-  }), tt)))))));
+  instrs = All-from_recursion IsInstr (loop_block (variable_and 1 (pos 1)) proof).code (
+    (plain_in (op.Len 3 0) refl (lit< tt, lit< tt)),
+    (
+      (record { op = (lit< tt, lit< tt, lit≤ tt); way = record { rise = tt; are = All-nil IsValue }; by = All-nil AreLinesIn }),
+      (
+        (plain_in (op.Ld 3 0 1) refl (lit< tt, lit< tt, lit< tt)),
+        (
+          (plain_in (op.Add 2 2 3) refl (lit< tt, lit< tt, lit< tt)),
+          (
+            (plain_in (op.Li 3 (pos 1)) refl (lit< tt, one_fits)),
+            (
+              (plain_in (op.Add 1 1 3) refl (lit< tt, lit< tt, lit< tt)),
+              (
+                (record {
+                  op = lit≤ tt;
+                  way = record { rise = (lit≤ tt, (lit≤ tt, tt)); are = All-from_recursion IsValue ((1, variable_and 1 (pos 1)) ∷ (2, sum) ∷ []) ((lit≤ tt, next_in), ((lit≤ tt, sum_in), tt)) };
+                  by = proof_in;
+                }),
+                tt,
+              ),
+            ),
+          ),
+        ),
+      ),
+    ),
+  );
   ends = refl;
 }
 
@@ -117,16 +147,19 @@ array_sum_in_grammar = record {
   few_types = lit≤ tt;
   types = All-nil IsTypeIn;
   few_funs = lit≤ tt;
-  funs = All-from_recursion IsFunction array_sum.funs ((record {
-    name = refl;
-    sig = record {
-      quantifier = record { few = lit≤ tt; are = All-from_recursion IsFormIn sum_sig.rows (first_in, tt) };
+  funs = All-from_recursion IsFunction array_sum.funs (
+    (record {
+      name = refl;
+      sig = record {
+        quantifier = record { few = lit≤ tt; are = All-from_recursion IsFormIn sum_sig.rows (first_in, tt) };
+        few = lit≤ tt;
+        params = All-from_recursion IsTyIn sum_sig.params ((lit≤ tt, first_in), tt);
+        result_quantifier = record { few = lit≤ tt; are = All-nil IsFormIn };
+        result = index_in;
+      };
+      blocks = (refl, first_code, lit≤ tt, All-from_recursion IsLabelled (loop_block (variable_and 1 (pos 1)) proof ∷ end_block (op.Ret 2) ∷ []) (loop_in, (end_in, tt)));
       few = lit≤ tt;
-      params = All-from_recursion IsTyIn sum_sig.params ((lit≤ tt, first_in), tt);
-      result_quantifier = record { few = lit≤ tt; are = All-nil IsFormIn };
-      result = index_in;
-    };
-    blocks = (refl, first_code, lit≤ tt, All-from_recursion IsLabelled (loop_block (variable_and 1 (pos 1)) proof ∷ end_block (op.Ret 2) ∷ []) (loop_in, (end_in, tt)));
-    few = lit≤ tt;
-  }), tt);
+    }),
+    tt,
+  );
 }
