@@ -1,0 +1,8 @@
+pub mod BranchEnds
+pub mod BlockEnds
+pub mod PlaceLists
+pub mod Contexts
+pub mod Declared
+pub mod JoinParts
+pub mod BlockParts
+pub mod BlockSizes

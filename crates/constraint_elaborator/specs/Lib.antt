@@ -1,0 +1,4 @@
+pub mod Changed
+pub mod JoinViews
+pub mod BlockViews
+pub mod Top
