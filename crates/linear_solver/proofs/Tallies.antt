@@ -1,15 +1,16 @@
 -- Counts of rows by the sign of a coefficient, column by column.
-use Rattle.std.proofs.Common.{◌≡◌, ℕ, zero, suc, ◌+◌, ◌<◌, ◌≤◌, ℤ, pos, Bool, true, false, cond, List, length, replicate, drop, get_or, refl, ◌∙◌, ap, arith}
+use Rattle.std.proofs.Common.{◌≡◌, ◌⊎◌, inl, inr, ℕ, zero, suc, ◌+◌, ◌<◌, ◌≤◌, ℤ, pos, Bool, true, false, cond, nat_lt, List, [], ◌∷◌, length, replicate, drop, set, get_or, refl, sym, ◌∙◌, ap, arith}
+use Rattle.std.proofs.lemmas.Bool.Decides.{nat_tests}
+use Rattle.xan_lin.proofs.Booleans.{is_less}
 use Rattle.linear_solver.specs.declared.source.Sign.{Sign}
 use Rattle.linear_solver.specs.Systems.{Row, coefficient, is_sign, has_sign, with_sign}
 use Rattle.linear_solver.specs.Region.{no_row}
 use Rattle.linear_solver.proofs.Passes.{counts_one, counts_none, counts_all}
 use Rattle.linear_solver.proofs.Ranges.{with_sign-few}
+use Rattle.linear_solver.proofs.Stores.{get-other, get-below, get-there}
 
-pub zero_at : (n k : ℕ) → get_or (replicate n zero) k zero ≡ zero
-zero_at zero k = refl
-zero_at (suc n) zero = refl
-zero_at (suc n) (suc k) = zero_at n k
+last : (a b : ℕ) → a < b + 1 → nat_lt a b ≡ false → a ≡ b
+last a b h e = grind (arith, nat_tests)
 
 abbrev raised_by : Bool → ℕ → ℕ
 raised_by b n = cond b (n + 1) n
@@ -19,6 +20,41 @@ pub record Raises (sign : Sign) (cells : List ℤ) (old new : List ℕ) (at : �
   pub before : (column : ℕ) → column < at → get_or new column 0 ≡ raised_by (is_sign sign (get_or cells column (pos 0))) (get_or old column 0)
   pub after : (column : ℕ) → at ≤ column → get_or new column 0 ≡ get_or old column 0
   pub count : length new ≡ 64
+
+pub raises_begin : (sign : Sign) (cells : List ℤ) (old : List ℕ) → length old ≡ 64 → Raises sign cells old old 0
+raises_begin sign cells old e = record { before = λ column h. absurd (omega arith); after = λ column h. refl; count = e }
+
+pub zero_at : (n k : ℕ) → get_or (replicate n zero) k zero ≡ zero
+zero_at zero k = refl
+zero_at (suc n) zero = refl
+zero_at (suc n) (suc k) = zero_at n k
+
+length-set : (xs : List ℕ) (k x : ℕ) → length (set xs k x) ≡ length xs
+length-set [] k x = refl
+length-set (y ∷ xs) zero x = refl
+length-set (y ∷ xs) (suc k) x = ap suc (length-set xs k x)
+
+pub raises_more : (sign : Sign) (cells : List ℤ) (old now new : List ℕ) (at n : ℕ) (b : Bool) → Raises sign cells old now at → at < length cells → length cells ≤ 64
+    → b ≡ is_sign sign (get_or cells at (pos 0)) → n ≡ raised_by b (get_or now at 0) → new ≡ set now at n → Raises sign cells old new (at + 1)
+raises_more sign cells old now new at n b r h few test is change = record {
+  before = λ column k. before column k (column_cases column k);
+  after = λ column k. ap (λ xs. get_or xs column 0) change ∙ get-other now at column n 0 (omega (arith, k)) ∙ r.after column (omega (arith, k));
+  count = ap length change ∙ length-set now at n ∙ r.count;
+}
+  where
+    column_cases : (column : ℕ) → column < at + 1 → (column < at) ⊎ (column ≡ at)
+    column_cases column k = go (nat_lt column at) refl
+      where
+        go : (b : Bool) → nat_lt column at ≡ b → (column < at) ⊎ (column ≡ at)
+        go true e = inl (is_less column at e)
+        go false e = inr (last column at k e)
+
+    before : (column : ℕ) → column < at + 1 → (column < at) ⊎ (column ≡ at) → get_or new column 0 ≡ raised_by (is_sign sign (get_or cells column (pos 0))) (get_or old column 0)
+    before column k (inl less) = ap (λ xs. get_or xs column 0) change ∙ get-below now at column n 0 less ∙ r.before column less
+    before column k (inr same) =
+        ap (λ xs. get_or xs column 0) change ∙ ap (λ k. get_or (set now at n) k 0) same ∙ get-there now at n 0 (omega (arith, h, few, r.count))
+        ∙ is ∙ ap (λ c. raised_by c (get_or now at 0)) test ∙ ap (raised_by (is_sign sign (get_or cells at (pos 0)))) (r.after at (omega arith))
+        ∙ ap (λ k. raised_by (is_sign sign (get_or cells k (pos 0))) (get_or old k 0)) (sym same)
 
 -- the rows before this one are counted
 abbrev pub Tallied : Sign → List ℕ → List Row → List ℕ → ℕ → Type 0

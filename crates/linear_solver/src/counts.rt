@@ -1,5 +1,5 @@
 //! How many rows of a system have a positive coefficient, and how many a negative one, of all variables in one pass.
-ghost use Rattle.std.specs.Prelude.{◌≡◌, ℕ, ◌≤◌, ◌<◌, ◌+◌, length, slice_set, pos, if◌then◌else◌};
+ghost use Rattle.std.specs.Prelude.{◌≡◌, ℕ, ◌≤◌, ◌<◌, ◌+◌, length, pos, if◌then◌else◌};
 ghost use Rattle.std.specs.List.{slice_index_or};
 ghost use Rattle.linear_solver.specs.Systems.{is_sign, with_sign};
 ghost use Rattle.linear_solver.specs.declared.source.Sign.TheVariants.{Positive, Negative};
@@ -27,7 +27,9 @@ pub(crate) fn count_all(work: &Workspace) -> Counts
     let mut positive = zeros();
     let mut negative = zeros();
     'rows: for at in 0..work.count() {
-        add_row(work.coefficients(at), &mut positive, &mut negative);
+        let cells = work.coefficients(at);
+        add_signs(Sign::Positive, cells, &mut positive);
+        add_signs(Sign::Negative, cells, &mut negative);
     }
     Counts { positive, negative }
 }
@@ -39,31 +41,16 @@ fn zeros() -> [u32; 64]
     [0; 64]
 }
 
-// Counts one more in each column whose coefficient is positive, and in each whose coefficient is negative.
-fn add_row(cells: &[i64], positive: &mut [u32; 64], negative: &mut [u32; 64])
+// Counts one more in each column whose coefficient has this sign.
+fn add_signs(sign: Sign, cells: &[i64], counts: &mut [u32; 64])
     requires few { length cells.now ≤ 64 }
-    requires small { (column : ℕ) → column < length cells.now → slice_index_or positive.old column 0 ≤ 2000 }
-    requires small_too { (column : ℕ) → column < length cells.now → slice_index_or negative.old column 0 ≤ 2000 }
-    ensures some { (column : ℕ) → column < length cells.now → slice_index_or positive.new column 0
-        ≡ (if is_sign Positive (slice_index_or cells.now column (pos 0)) then slice_index_or positive.old column 0 + 1 else slice_index_or positive.old column 0) }
-    ensures others { (column : ℕ) → column < length cells.now → slice_index_or negative.new column 0
-        ≡ (if is_sign Negative (slice_index_or cells.now column (pos 0)) then slice_index_or negative.old column 0 + 1 else slice_index_or negative.old column 0) }
+    requires small { (column : ℕ) → column < length cells.now → slice_index_or counts.old column 0 ≤ 2000 }
+    ensures { (column : ℕ) → column < length cells.now → slice_index_or counts.new column 0
+        ≡ (if is_sign sign (slice_index_or cells.now column (pos 0)) then slice_index_or counts.old column 0 + 1 else slice_index_or counts.old column 0) }
 {
     'cells: for column in 0..cells.len() {
-        if cells[column] != 0 {
-            add_one(Sign::Positive, &cells[column], column, positive);
-            add_one(Sign::Negative, &cells[column], column, negative);
-        }
+        counts[column] = raised(counts[column], is_sign(sign, &cells[column]));
     }
-}
-
-// Counts one more in a column, where its coefficient has this sign.
-fn add_one(sign: Sign, cell: &i64, column: usize, counts: &mut [u32; 64])
-    requires within { column < 64 }
-    requires small { slice_index_or counts.old column 0 ≤ 2000 }
-    ensures { counts.new ≡ slice_set counts.old column (if is_sign sign cell.now then slice_index_or counts.old column 0 + 1 else slice_index_or counts.old column 0) }
-{
-    counts[column] = raised(counts[column], is_sign(sign, cell));
 }
 
 // The count, with one more where it is so.
