@@ -1,5 +1,5 @@
 -- What the rules of loads, of new blocks and of calls say of types and tags.
-use Rattle.std.proofs.Common.{◌≡◌, ◌∙◌, ℕ, List, [], ◌∷◌, ◌++◌, Some, Ok, refl, ap, subst}
+use Rattle.std.proofs.Common.{◌≡◌, ◌∙◌, ℕ, List, [], ◌∷◌, ◌++◌, Some, Ok, refl, ap, subst, ◌+◌}
 use Rattle.std.specs.Prelude.{slice_get}
 use Rattle.xan_lin.specs.Linear.{Linear, excess_of}
 use Rattle.state_types.specs.Types.{subst_ty}
@@ -11,7 +11,7 @@ use Rattle.state_types.proofs.Thens.{then_ok, ok_same}
 use Rattle.operation_rules.specs.Faults.{needed, or_fault}
 use Rattle.operation_rules.specs.declared.error.Fault.TheVariants.{NoTarget}
 use Rattle.operation_rules.specs.Forms.{variables_from}
-use Rattle.operation_rules.specs.Rules.{Setting, two_types, as_number, as_array, tuple_at, cell_at, matching, matching_packed, loaded, allocated, constructed, called, rule}
+use Rattle.operation_rules.specs.Rules.{Setting, two_types, as_number, as_array, tuple_at, cell_at, matching, matching_packed, loaded, allocated, constructed, called, rule, returned}
 use Rattle.operation_rules.specs.declared.operation.Operation.TheVariants as operation
 use Rattle.operation_rules.specs.declared.rule.Rule.{Rule}
 use Rattle.operation_rules.proofs.RuleFacts.{or_fault_ok}
@@ -113,3 +113,11 @@ module _ (st : Setting) (first : ℕ) (types : List Ty) (r : Rule) where
         tags = matching_tags 0 sig.vars sig.rows sig.params types t.value t.first;
         makes = result_tags sig.result (subst_ty all 0 sig.result) (λ u is. subst_tag all 0 sig.result u is);
       })
+
+  -- the value has the tag of the function's result
+  pub return_tags : rule st operation.Return types first ≡ Ok r → tags_for (st.own.result ∷ []) ≡ tags_for types
+  unfolding rule returned
+  return_tags e =
+      let own = st.own in
+      let s = then_ok (matching own.vars (own.vars + own.result_vars) own.result_rows (own.result ∷ []) types) _ r e in
+      matching_tags own.vars (own.vars + own.result_vars) own.result_rows (own.result ∷ []) types s.value s.first

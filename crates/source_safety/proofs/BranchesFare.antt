@@ -28,7 +28,7 @@ use Rattle.typed_core.proofs.Continued.{no_more}
 use Rattle.typed_core.proofs.GrownContexts.{state_by_goes}
 use Rattle.typed_core.proofs.NamedStates.{answered}
 use Rattle.source_safety.specs.Values.{headers_of, HaveValues}
-use Rattle.source_safety.specs.Standing.{VariableHolds, Stands, Goes, side_state}
+use Rattle.source_safety.specs.Standing.{VariablesHold, Stands, Goes, side_state}
 use Rattle.source_safety.proofs.Demanded.{Acts, acts_by, by_rule_ok}
 use Rattle.source_safety.proofs.EffectsFare.{effect_fares}
 use Rattle.source_safety.proofs.FaredOn.{keeps_all}
@@ -62,7 +62,7 @@ module _ (site : Site) (setting : IsSetting (setting_of site)) (env : Env) where
       named = named;
       one_each = stands.one_each ∙ sym vars;
       hold = hold;
-      typed = subst (λ ts. All (VariableHolds env (headers_of store) assignment) ts) (sym types) stands.typed;
+      typed = subst (λ ts. VariablesHold env (headers_of store) assignment ts) (sym types) stands.typed;
       holds = stands.holds;
     };
     keeps = keeps_all (headers_of store);

@@ -32,7 +32,7 @@ use Rattle.typed_core.proofs.GrownOperands.{operand_goes, operands_go, chained_g
 use Rattle.typed_core.proofs.NamedOperands.{one_below, two_below}
 use Rattle.typed_core.proofs.NamedStates.{answered, all_more}
 use Rattle.source_safety.specs.Values.{headers_of, HasValue, HaveValues}
-use Rattle.source_safety.specs.Standing.{GoalsHold, VariableHolds, Stands, Goes, Gives, GiveAll, CallsFare, Fares}
+use Rattle.source_safety.specs.Standing.{GoalsHold, Stands, Goes, Gives, GiveAll, CallsFare, Fares}
 use Rattle.source_safety.proofs.BlocksFare.{load_fares, new_fares, tuple_fares, call_fares}
 use Rattle.source_safety.proofs.Demanded.{goals_before}
 use Rattle.source_safety.proofs.FaredOn.{fares_then, fares_on, stays_here, goes_on, goes_behind, still_have}
@@ -128,7 +128,7 @@ module _ {L : Type 0} (site : Site) (setting : IsSetting (setting_of site)) (cal
       → Fares (GivesBehind st assignment run t) (read (slice_get env x) run)
   unfolding stays_here
   variable_fares x st t e assignment run stands =
-      let it = type_at-all (VariableHolds env (headers_of run.store) assignment) x st.types t stands.typed e in
+      let it = stands.typed.by x t e in
       let below = type_at-all (λ (e : ℕ × Ty). TypeBelow st.ctx.vars e.1) x st.types t stands.named.types e in
       subst (λ o. Fares (GivesBehind st assignment run t) (read o run)) (sym it.there)
       (record { is = record { goes = stays_here site env st assignment run.store stands; has = it.has; below = below } })

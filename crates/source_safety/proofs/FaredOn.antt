@@ -1,5 +1,5 @@
 -- Answers of a run in turn, and values that wait while the run goes on.
-use Rattle.std.proofs.Common.{◌≡◌, ℕ, ℤ, List, [], ◌∷◌, ◌++◌, length, get_or, Ok, Err, sym, subst, arith}
+use Rattle.std.proofs.Common.{◌≡◌, ℕ, ℤ, List, [], ◌∷◌, ◌++◌, length, Ok, Err, sym, subst, arith}
 use Rattle.std.specs.List.{All}
 use Rattle.std.proofs.lemmas.List.Elements.{All-head, All-tail}
 use Rattle.xan_seq.specs.Answers.{◌>>=◌}
@@ -7,6 +7,7 @@ use Rattle.state_types.specs.Types.{TypeBelow}
 use Rattle.state_types.specs.Words.{Headers, HasType, Keeps}
 use Rattle.state_types.specs.declared.types.Ty.{Ty}
 use Rattle.state_types.specs.declared.types.Ty.TheVariants as ty
+use Rattle.state_types.proofs.Edges.{type_at-all}
 use Rattle.state_types.proofs.Unpacked.{present_keeps}
 use Rattle.index_sorts.specs.Entails.{AllHold}
 use Rattle.typed_core.specs.Growth.{Continues, Grown, NamesSoFar}
@@ -15,7 +16,7 @@ use Rattle.typed_core.specs.SourceValues.{Value, Blocks}
 use Rattle.typed_core.specs.States.{Site, State}
 use Rattle.typed_core.proofs.Continued.{no_more, some_more, more_again}
 use Rattle.source_safety.specs.Values.{headers_of, HasValue, HaveValues, StoreHolds}
-use Rattle.source_safety.specs.Standing.{VariableHolds, Stands, Goes, Fares}
+use Rattle.source_safety.specs.Standing.{VariablesHold, Stands, Goes, Fares}
 
 -- ---- answers
 
@@ -60,11 +61,13 @@ module _ (old new : Headers) (assignment given : List ℤ) (keeps : Keeps old ne
   values_wait (v ∷ vs) (t ∷ ts) below have =
       (value_waits v t (All-head (TypeBelow (length assignment)) t ts below) have.0, values_wait vs ts (All-tail (TypeBelow (length assignment)) t ts below) have.1)
 
-  pub variables_wait : (env : Env) (types : List (ℕ × Ty)) → All (λ e. TypeBelow (length assignment) e.1) types → All (VariableHolds env old assignment) types
-      → All (VariableHolds env new given) types
-  variables_wait env types below all = λ k d h.
-      let it = all k d h in
-      record { value = it.value; there = it.there; has = value_waits it.value (get_or types k d).1 (below k d h) it.has }
+  pub variables_wait : (env : Env) (types : List (ℕ × Ty)) → All (λ e. TypeBelow (length assignment) e.1) types → VariablesHold env old assignment types → VariablesHold env new given types
+  variables_wait env types below all = record {
+    by = λ x t e.
+        let it = all.by x t e in
+        let named = type_at-all (λ (e : ℕ × Ty). TypeBelow (length assignment) e.1) x types t below e in
+        record { value = it.value; there = it.there; has = value_waits it.value t named it.has };
+  }
 
 -- ---- a run goes on
 
@@ -113,7 +116,7 @@ module _ (site : Site) (env : Env) where
           named = named;
           one_each = one_each;
           hold = hold;
-          typed = subst (λ ts. All (VariableHolds env (headers_of new) (assignment ++ own)) ts) (sym grown.types) typed;
+          typed = subst (λ ts. VariablesHold env (headers_of new) (assignment ++ own) ts) (sym grown.types) typed;
           holds = holds;
         };
         keeps = keeps;

@@ -11,3 +11,5 @@ pub mod BlocksFare
 pub mod ExpressionsFare
 pub mod BranchesFare
 pub mod TestsFare
+pub mod SimpleStatements
+pub mod ReturnsFare

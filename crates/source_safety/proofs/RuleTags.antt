@@ -8,10 +8,10 @@ use Rattle.state_types.proofs.Thens.{then_ok, ok_same}
 use Rattle.operation_rules.specs.Applied.{all_given}
 use Rattle.operation_rules.specs.Faults.{Ruling, needed}
 use Rattle.operation_rules.specs.Forms.{constant_form, number_of}
-use Rattle.operation_rules.specs.Rules.{Setting, gives, gives_number, product, no_types, one_type, as_array, two_numbers, quotient, remainder, measured, rule, as_truth}
+use Rattle.operation_rules.specs.Rules.{Setting, gives, gives_number, product, no_types, one_type, as_array, two_numbers, quotient, remainder, measured, rule, as_truth, as_number}
 use Rattle.operation_rules.specs.declared.operation.Operation.TheVariants as operation
 use Rattle.operation_rules.specs.declared.rule.Rule.{Rule}
-use Rattle.operation_rules.proofs.WordsRead.{no_types_is, one_type_is, as_array_is, two_numbers_is}
+use Rattle.operation_rules.proofs.WordsRead.{no_types_is, one_type_is, as_array_is, two_numbers_is, as_number_is}
 use Rattle.typed_core.specs.SourceValues.{Tag, Number, Truth as Flag, Array}
 use Rattle.source_safety.specs.Values.{tag_for, tags_for}
 
@@ -163,3 +163,13 @@ module _ (st : Setting) (first : ℕ) (types : List Ty) (r : Rule) where
       let t = then_ok (as_truth s.value) _ r s.second in
       by_rule_made (λ r. (Flag ∷ [] ≡ tags_for types) × IsFree r) (gives [] []) r t.second
       (sym (ap tags_for (one_type_is types s.value s.first ∙ ap (λ x. x ∷ []) (as_truth_is s.value t.value t.first))), refl)
+
+  -- ---- what gives nothing
+
+  pub print_tags : rule st operation.Print types first ≡ Ok r → (Number ∷ [] ≡ tags_for types) × IsFree r
+  unfolding rule tags_for
+  print_tags e =
+      let s = then_ok (one_type types) _ r e in
+      let t = then_ok (as_number s.value) _ r s.second in
+      by_rule_made (λ r. (Number ∷ [] ≡ tags_for types) × IsFree r) (gives [] []) r t.second
+      (sym (ap tags_for (one_type_is types s.value s.first ∙ ap (λ x. x ∷ []) (as_number_is s.value t.value t.first))), refl)

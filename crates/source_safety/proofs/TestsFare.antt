@@ -32,7 +32,7 @@ use Rattle.typed_core.proofs.NamedOperands.{tested_stays}
 use Rattle.typed_core.proofs.NamedStates.{answered, Typed, typed_on, types_more}
 use Rattle.typed_core.proofs.GrownContexts.{rows_more}
 use Rattle.source_safety.specs.Values.{headers_of}
-use Rattle.source_safety.specs.Standing.{GoalsHold, VariableHolds, Stands, Goes, CallsFare, Fares, side_state}
+use Rattle.source_safety.specs.Standing.{GoalsHold, VariablesHold, Stands, Goes, CallsFare, Fares, side_state}
 use Rattle.source_safety.proofs.BranchesFare.{branched_fares, branched_grown, branched_by}
 use Rattle.source_safety.proofs.Demanded.{goals_before}
 use Rattle.source_safety.proofs.EffectsFare.{tags_there}
@@ -53,7 +53,7 @@ same_stands site env one two assignment store ctx types s = record {
   };
   one_each = s.one_each ∙ ap (λ c. c.vars) ctx;
   hold = subst (λ (c : IndexContext). AllHold assignment c.rows) ctx s.hold;
-  typed = subst (λ (ts : List (ℕ × Ty)). All (VariableHolds env (headers_of store) assignment) ts) types s.typed;
+  typed = subst (λ (ts : List (ℕ × Ty)). VariablesHold env (headers_of store) assignment ts) types s.typed;
   holds = s.holds;
 }
 
@@ -136,7 +136,7 @@ module _ (site : Site) (env : Env) where
           named = named;
           one_each = count;
           hold = subst (λ a. AllHold a st.ctx.rows) (sym front.is) (holds-front assignment front.rest st.ctx.rows rows stands.hold);
-          typed = subst (λ (ts : List (ℕ × Ty)). All (VariableHolds env (headers_of new) longer) ts) (sym on.types)
+          typed = subst (λ (ts : List (ℕ × Ty)). VariablesHold env (headers_of new) longer ts) (sym on.types)
               (variables_wait (headers_of new) (headers_of new) g.given longer (keeps_all (headers_of new)) (some_more g.given zeros) env middle.types below g.stands.typed);
           holds = g.stands.holds;
         };

@@ -1,8 +1,9 @@
 -- What holds where a run of a source stands: its variables, its store and an assignment of the index variables so far fit the state that
 -- is elaborated there.
-use Rattle.std.specs.Prelude.{◌≡◌, ◌≤◌, ℕ, ℤ, List, ◌++◌, length, slice_get, Some, Ok, Err, Bool, true, false}
+use Rattle.std.specs.Prelude.{◌≡◌, take, ◌≤◌, ℕ, ℤ, List, ◌++◌, length, slice_get, Some, Ok, Err, Bool, true, false}
 use Rattle.std.specs.List.{All}
 use Rattle.index_sorts.specs.Entails.{Entails, AllHold}
+use Rattle.state_types.specs.PlaceTypes.{type_at}
 use Rattle.state_types.specs.Types.{TypeBelow}
 use Rattle.state_types.specs.Words.{Headers, Keeps}
 use Rattle.state_types.specs.declared.closed.Packed.{Packed}
@@ -11,7 +12,7 @@ use Rattle.state_types.specs.declared.types.Ty.{Ty}
 use Rattle.operation_rules.specs.Sound.{EndsWell}
 use Rattle.typed_core.specs.declared.goal.GoalAt.{GoalAt}
 use Rattle.typed_core.specs.Growth.{Continues, NamesSoFar}
-use Rattle.typed_core.specs.SourceRuns.{Run, Answer, Env, Calls}
+use Rattle.typed_core.specs.SourceRuns.{Run, Answer, Env, Calls, Flow, Next, Gives as Returns}
 use Rattle.typed_core.specs.SourceValues.{Value, Blocks}
 use Rattle.typed_core.specs.States.{Site, State}
 use Rattle.typed_core.specs.Tests.{Sides, on_side}
@@ -29,12 +30,16 @@ pub record VariableHolds (env : Env) (headers : Headers) (assignment : List ℤ)
   pub there : slice_get env entry.0 ≡ Some (Some value)
   pub has : HasValue headers assignment value entry.1
 
+-- each of them
+pub record VariablesHold (env : Env) (headers : Headers) (assignment : List ℤ) (types : List (ℕ × Ty)) : Type 0 where
+  pub by : (x : ℕ) (t : Ty) → type_at x types ≡ Some t → VariableHolds env headers assignment (x, t)
+
 pub record Stands (site : Site) (st : State) (env : Env) (assignment : List ℤ) (store : Blocks) : Type 0 where
   pub own : site.own.vars ≤ st.ctx.vars
   pub named : NamesSoFar st
   pub one_each : length assignment ≡ st.ctx.vars
   pub hold : AllHold assignment st.ctx.rows
-  pub typed : All (VariableHolds env (headers_of store) assignment) st.types
+  pub typed : VariablesHold env (headers_of store) assignment st.types
   pub holds : StoreHolds site.table store
 
 -- ---- behind
@@ -89,3 +94,11 @@ pub record CallsFare {L : Type 0} (table : List Packed) (sigs : List Signature) 
   pub by : (fun : ℕ) (sig : Signature) (values : List ℤ) (vs : List Value) (run : Run L) → slice_get sigs fun ≡ Some sig → length values ≡ sig.vars → AllHold values sig.rows
       → HaveValues (headers_of run.store) values vs sig.params → StoreHolds table run.store
       → Fares (λ v (new : Run L). Came table sig values run.store v new.store) (call fun vs run)
+
+-- ---- statements
+
+-- What a statement leaves: it completes, with as many variables as before, and the run stands behind it; or the function returns, and the value
+-- has the type of its result, where the function's own variables have the values that they had.
+abbrev pub Leaves : {L : Type 0} → (site : Site) (more : State) (width : ℕ) (assignment : List ℤ) (store : Blocks) → Flow → Run L → Type 0
+Leaves site more width assignment store (Next env) new = Goes site more env assignment store new.store × (length env ≡ width)
+Leaves site more width assignment store (Returns v) new = Came site.table site.own (take site.own.vars assignment) store v new.store

@@ -1,0 +1,19 @@
+use Rattle.source_safety.proofs.ReturnsFare.{return_fares}
+use Rattle.source_safety.proofs.SimpleStatements.{set_fares, do_fares, print_fares}
+use Rattle.source_safety.proofs.laws.simple_statements_fare.Goals as goal
+
+pub returns-clause-assignments : goal.returns-clause-assignments
+returns-clause-assignments g c = λ site recorder call fun bound place env st more assignment run x e setting calls is goals stands within.
+    set_fares site setting recorder call calls fun bound place env st more assignment run stands goals x e within is
+
+pub returns-clause-calls : goal.returns-clause-calls
+returns-clause-calls g c = λ site recorder call fun bound place env st more assignment run e setting calls is goals stands.
+    do_fares site setting recorder call calls fun bound place env st more assignment run stands goals e is
+
+pub returns-clause-prints : goal.returns-clause-prints
+returns-clause-prints g c = λ site recorder call fun bound place env st more assignment run e setting calls is goals stands.
+    print_fares site setting recorder call calls fun bound place env st more assignment run stands goals e is
+
+pub returns-clause-gives : goal.returns-clause-gives
+returns-clause-gives g c = λ site recorder call fun bound place env st more assignment run e at setting calls is goals stands.
+    return_fares site setting recorder call calls fun bound place env st more assignment run stands goals e at is
