@@ -64,7 +64,7 @@ have_from headers assignment (v ∷ vs) (t ∷ ts) has tags =
 
 -- ---- the block that an array is
 
-descriptor_is : (b : Block) (d : ℕ) (cells : ℤ) → header_in (Some b) ≡ Some (record { descriptor = pos d; cells = cells }) → b.descriptor ≡ d
+pub descriptor_is : (b : Block) (d : ℕ) (cells : ℤ) → header_in (Some b) ≡ Some (record { descriptor = pos d; cells = cells }) → b.descriptor ≡ d
 descriptor_is b d cells e = omega (arith, ints, (ap (λ (x : Header). x.descriptor) (same_Some _ _ e)))
 
 module _ {L : Type 0} (site : Site) (setting : IsSetting (setting_of site)) (env : Env) (st : State) (t : Ty) (more : State) (assignment : List ℤ) (run : Run L) (goals : GoalsHold more.goals) where

@@ -13,3 +13,4 @@ pub mod BranchesFare
 pub mod TestsFare
 pub mod SimpleStatements
 pub mod ReturnsFare
+pub mod CellsPut

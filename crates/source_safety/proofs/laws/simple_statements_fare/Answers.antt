@@ -1,3 +1,4 @@
+use Rattle.source_safety.proofs.CellsPut.{store_fares}
 use Rattle.source_safety.proofs.ReturnsFare.{return_fares}
 use Rattle.source_safety.proofs.SimpleStatements.{set_fares, do_fares, print_fares}
 use Rattle.source_safety.proofs.laws.simple_statements_fare.Goals as goal
@@ -17,3 +18,7 @@ returns-clause-prints g c = λ site recorder call fun bound place env st more as
 pub returns-clause-gives : goal.returns-clause-gives
 returns-clause-gives g c = λ site recorder call fun bound place env st more assignment run e at setting calls is goals stands.
     return_fares site setting recorder call calls fun bound place env st more assignment run stands goals e at is
+
+pub returns-clause-stores : goal.returns-clause-stores
+returns-clause-stores g c = λ site recorder call fun bound place env st more assignment run array index e at setting calls is goals stands.
+    store_fares site setting recorder call calls fun bound place env st more assignment run stands goals array index e at is
