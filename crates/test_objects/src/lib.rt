@@ -1,0 +1,7 @@
+//! The words that instructions are coded in, by hand.
+//!
+//! There is nothing here but tests, which use public calls alone: the crates that they test need not be proved a second time for them.
+#![tactic(auto)]
+
+#[cfg(test)]
+mod tests;
