@@ -14,3 +14,5 @@ pub mod TestsFare
 pub mod SimpleStatements
 pub mod ReturnsFare
 pub mod CellsPut
+pub mod PartsSet
+pub mod SplitsFare

@@ -54,12 +54,12 @@ set_other (e ∷ es) zero (suc y) v h = refl
 set_other (e ∷ es) (suc x) zero v h = refl
 set_other (e ∷ es) (suc x) (suc y) v h = set_other es x y v (λ same. h (ap suc same))
 
-set_length : (env : Env) (x : ℕ) (v : Value) → length (slice_set env x (Some v)) ≡ length env
+pub set_length : (env : Env) (x : ℕ) (v : Value) → length (slice_set env x (Some v)) ≡ length env
 set_length [] x v = refl
 set_length (e ∷ es) zero v = refl
 set_length (e ∷ es) (suc x) v = ap suc (set_length es x v)
 
-names_with : (P : ℕ × Ty → Type 0) (x : ℕ) (t : Ty) (types : List (ℕ × Ty)) → P (x, t) → All P types → All P (with_type x t types)
+pub names_with : (P : ℕ × Ty → Type 0) (x : ℕ) (t : Ty) (types : List (ℕ × Ty)) → P (x, t) → All P types → All P (with_type x t types)
 names_with P x t [] p all = All-cons P (x, t) [] p (All-nil P)
 names_with P x t (e ∷ es) p all =
     let later = names_with P x t es p (All-tail P e es all) in
@@ -78,7 +78,7 @@ like_is (Some old) t it e = by_kind (same_kind old t) e
     by_kind true e = ok_same t it e
     by_kind false e = absurd (let bad : ⊥ = cc in bad)
 
-given_is : (x : ℕ) (t : Ty) (st more : State) → given x t st ≡ Ok more → (let s : State = record st { types = with_type x t st.types } in s) ≡ more
+pub given_is : (x : ℕ) (t : Ty) (st more : State) → given x t st ≡ Ok more → (let s : State = record st { types = with_type x t st.types } in s) ≡ more
 unfolding given
 given_is x t st more e =
     let s = then_ok (within limit.Places (suc x)) _ more e in
@@ -100,7 +100,7 @@ module _ (env : Env) (headers : Headers) (assignment : List ℤ) (types : List (
       different : (b : Truth) → b ≡ false → b ≡ true → ⊥
       different b f t = cc
 
-  set_holds : VariablesHold (slice_set env x (Some v)) headers assignment (with_type x t types)
+  pub set_holds : VariablesHold (slice_set env x (Some v)) headers assignment (with_type x t types)
   set_holds = record { by = λ y u e. one_variable y u (x == y) refl (sym (value-with y x t types) ∙ e) }
 
 module _ (site : Site) (env : Env) where

@@ -1,6 +1,6 @@
 //! What goes well where all goals hold.
 
-ghost use Rattle.std.specs.Prelude.{◌≡◌, ℕ, ◌<◌, ℤ, List, length, Option, Ok};
+ghost use Rattle.std.specs.Prelude.{◌≡◌, ℕ, ◌<◌, ℤ, List, length, Option, Ok, All};
 ghost use Rattle.operation_rules.specs.Sound.{IsSetting};
 ghost use Rattle.source_safety.specs.Standing.{GoalsHold, Stands, Goes, Gives, CallsFare, Fares, Leaves, side_state};
 ghost use Rattle.state_types.specs.declared.types.Ty.{Ty};
@@ -11,7 +11,7 @@ ghost use Rattle.typed_core.specs.SourceRuns.{Calls, Env, Place, Recorder, Run};
 ghost use Rattle.typed_core.specs.SourceStatements.{statement};
 ghost use Rattle.typed_core.specs.SourceTests.{holds};
 ghost use Rattle.typed_core.specs.States.{Site, State};
-ghost use Rattle.typed_core.specs.Statements.{assigned, store, done, printed, returning};
+ghost use Rattle.typed_core.specs.Statements.{assigned, split, store, done, printed, returning};
 ghost use Rattle.typed_core.specs.Tests.{Sides, tested};
 ghost use Rattle.xanadu_tree.specs.Plain as core;
 
@@ -32,13 +32,17 @@ pub fn tests_fare<L>()
         → Fares (λ truth (new : Run L). Goes site (side_state truth sides) env assignment run.store new.store) (holds call env test run) }
 {}
 
-/// So it is with an assignment to a variable of the function, with a store into a cell, with a call as a statement, with a print, and with a return, behind which the value
+/// So it is with an assignment to a variable of the function, with a split of a tuple into variables, with a store into a cell, with a call as a statement, with a print, and with a return, behind which the value
 /// has the type of the function's result, where the function's own index variables have the values that they had.
 pub fn simple_statements_fare<L>()
     ensures assignments { (site : Site) (recorder : Recorder L) (call : Calls L) (fun bound : ℕ) (place : Place) (env : Env) (st more : State)
         (assignment : List ℤ) (run : Run L) (x : ℕ) (e : core.Expr) → IsSetting (setting_of site) → CallsFare site.table site.sigs call
         → assigned site x e st ≡ Ok more → GoalsHold more.goals → Stands site st env assignment run.store → x < length env
         → Fares (Leaves site more (length env) assignment run.store) (statement recorder call fun bound place (core.Set x e) env run) }
+    ensures splits { (site : Site) (recorder : Recorder L) (call : Calls L) (fun bound : ℕ) (place : Place) (env : Env) (st more : State)
+        (assignment : List ℤ) (run : Run L) (xs : List ℕ) (e : core.Expr) (at : ℕ) → IsSetting (setting_of site) → CallsFare site.table site.sigs call
+        → split site xs e st ≡ Ok more → GoalsHold more.goals → Stands site st env assignment run.store → All (λ x. x < length env) xs
+        → Fares (Leaves site more (length env) assignment run.store) (statement recorder call fun bound place (core.Split xs e at) env run) }
     ensures stores { (site : Site) (recorder : Recorder L) (call : Calls L) (fun bound : ℕ) (place : Place) (env : Env) (st more : State)
         (assignment : List ℤ) (run : Run L) (array index e : core.Expr) (at : ℕ) → IsSetting (setting_of site) → CallsFare site.table site.sigs call
         → store site array index e at st ≡ Ok more → GoalsHold more.goals → Stands site st env assignment run.store

@@ -1,6 +1,7 @@
 use Rattle.source_safety.proofs.CellsPut.{store_fares}
 use Rattle.source_safety.proofs.ReturnsFare.{return_fares}
 use Rattle.source_safety.proofs.SimpleStatements.{set_fares, do_fares, print_fares}
+use Rattle.source_safety.proofs.SplitsFare.{split_fares}
 use Rattle.source_safety.proofs.laws.simple_statements_fare.Goals as goal
 
 pub returns-clause-assignments : goal.returns-clause-assignments
@@ -22,3 +23,7 @@ returns-clause-gives g c = λ site recorder call fun bound place env st more ass
 pub returns-clause-stores : goal.returns-clause-stores
 returns-clause-stores g c = λ site recorder call fun bound place env st more assignment run array index e at setting calls is goals stands.
     store_fares site setting recorder call calls fun bound place env st more assignment run stands goals array index e at is
+
+pub returns-clause-splits : goal.returns-clause-splits
+returns-clause-splits g c = λ site recorder call fun bound place env st more assignment run xs e at setting calls is goals stands within.
+    split_fares site setting recorder call calls fun bound place env st more assignment run stands goals xs e at within is
