@@ -1,0 +1,4 @@
+pub mod Cancelling
+pub mod RoundRows
+pub mod VariablesLeft
+pub mod EndedRounds
