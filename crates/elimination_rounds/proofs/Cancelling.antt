@@ -1,5 +1,5 @@
 -- Coefficients that are 0 stay 0 in quotients and sums, and a variable goes out of the sum of two rows in which its coefficients have different signs.
-use Rattle.std.proofs.Common.{◌≡◌, ℕ, zero, suc, ◌*◌, ◌/◌, ◌%◌, ℤ, pos, negsuc, neg_ℤ, ◌+ℤ◌, ◌*ℤ◌, ◌==◌, Bool, true, false, cond, int_lt, unsigned_abs, List, [], ◌∷◌, map, refl, sym, ◌∙◌, ap, arith}
+use Rattle.std.proofs.Common.{◌≡◌, ℕ, suc, ◌*◌, ◌/◌, ℤ, pos, negsuc, neg_ℤ, ◌+ℤ◌, ◌*ℤ◌, ◌==◌, Bool, true, false, cond, int_lt, unsigned_abs, List, [], ◌∷◌, map, refl, sym, ◌∙◌, ap, arith}
 use Rattle.std.specs.Int.{◌∣◌}
 use Rattle.std.proofs.lemmas.Int.{ints}
 use Rattle.std.proofs.Math.Nat.{mod-add-div', mul_comm, mul_assoc}
@@ -11,7 +11,7 @@ use Rattle.xan_lin.proofs.Ring.{zero-mul, neg-mul, add_none}
 use Rattle.xan_lin.proofs.Sums.{IsRising-sum}
 use Rattle.xan_lin.proofs.Scaling.{IsRising-scaled}
 use Rattle.xan_lin.proofs.Coefficients.{coefficient-none, coefficient-same, coefficient-other, coefficient-below, coefficient-sum, coefficient-scaled}
-use Rattle.proof_lines.specs.Rows.{floor_over, divides, divided_term, cut_of}
+use Rattle.proof_lines.specs.Rows.{floor_over, divides, divided_term}
 use Rattle.proof_lines.specs.Check.{is_positive}
 use Rattle.proof_lines.specs.Variables.{with_terms}
 use Rattle.proof_lines.proofs.Different.{same_number}
@@ -75,10 +75,10 @@ pub lacks-sum : (v : ℕ) (a b : ℤ) (ts us : List Term) → Lacks v ts → Lac
 lacks-sum v a b ts us l m = record {
   rising = rising-sum a b ts us l.rising m.rising;
   none = sum-coefficient v a b ts us l.rising m.rising
-    ∙ ap (λ n. (n *ℤ a) +ℤ (coefficient v us *ℤ b)) l.none
-    ∙ ap (λ n. (pos 0 *ℤ a) +ℤ (n *ℤ b)) m.none
-    ∙ ap (λ n. n +ℤ (pos 0 *ℤ b)) (zero-mul a)
-    ∙ ap (λ n. pos 0 +ℤ n) (zero-mul b);
+      ∙ ap (λ n. (n *ℤ a) +ℤ (coefficient v us *ℤ b)) l.none
+      ∙ ap (λ n. (pos 0 *ℤ a) +ℤ (n *ℤ b)) m.none
+      ∙ ap (λ n. n +ℤ (pos 0 *ℤ b)) (zero-mul a)
+      ∙ ap (λ n. pos 0 +ℤ n) (zero-mul b);
 }
 
 -- ---- a variable goes out
@@ -116,7 +116,7 @@ cancels (pos a) (pos b) h k = absurd (not_below b k)
 
 pub lacks-taken : (v : ℕ) (ts us : List Term) → IsRising 0 ts → IsRising 0 us → int_lt (pos 0) (coefficient v ts) ≡ true → int_lt (coefficient v us) (pos 0) ≡ true
     → (let a = unsigned_abs (coefficient v ts) in let b = unsigned_abs (coefficient v us) in
-       Lacks v (sum_terms (scaled_terms ts (first_by a b)) (scaled_terms us (second_by a b))))
+    Lacks v (sum_terms (scaled_terms ts (first_by a b)) (scaled_terms us (second_by a b))))
 lacks-taken v ts us r s h k =
     let a = unsigned_abs (coefficient v ts) in
     let b = unsigned_abs (coefficient v us) in

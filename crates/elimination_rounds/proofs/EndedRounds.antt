@@ -1,5 +1,5 @@
 -- The rounds end by themselves, so that their bound changes nothing.
-use Rattle.std.proofs.Common.{◌≡◌, ℕ, zero, suc, ◌<◌, ◌≤◌, pos, neg_ℤ, ◌-ℤ◌, Bool, true, false, cond, nat_lt, List, [], ◌∷◌, length, All, Result, Ok, Err, refl, sym, ◌∙◌, ap, subst, arith}
+use Rattle.std.proofs.Common.{◌≡◌, ℕ, zero, suc, ◌≤◌, Bool, true, false, cond, nat_lt, List, [], ◌∷◌, length, All, Result, Ok, Err, refl, sym, ◌∙◌, ap, subst, arith}
 use Rattle.xan_lin.specs.Terms.{IsRising}
 use Rattle.xan_lin.specs.Linear.{Linear, IsForm, negated_row_of}
 use Rattle.xan_lin.specs.declared.term.LimitKind.{LimitKind}
@@ -19,8 +19,9 @@ use Rattle.linear_solver.specs.Cone.{cone}
 use Rattle.linear_solver.specs.Elimination.{ended, after_look, after_rows, rounds, bears, with_hyps, first_rows, in_cone, from_start, refutation}
 use Rattle.elimination_rounds.specs.Unbounded.{Refutes, IsSpent, Takes, Comes, overfull, refuted, exhausted, too_large, goes_on, ComesUnless, ComesFrom, IsAnswer}
 use Rattle.elimination_rounds.proofs.Cancelling.{rising-cut}
-use Rattle.elimination_rounds.proofs.RoundRows.{AreAll, numbered-all, tight-all, settle-all}
-use Rattle.elimination_rounds.proofs.VariablesLeft.{AreRising, left, left-most, next-rising, fewer-next, none-taken, left-numbered, full-after, full-ended, Shown, shows_full, shows_refuted, shows_spent, shows_taken, shown, takes-taken}
+use Rattle.elimination_rounds.proofs.RoundRows.{numbered-all, tight-all, settle-all}
+use Rattle.elimination_rounds.proofs.VariablesLeft.{AreRising, left, left-most, next-rising, fewer-next, none-taken, left-numbered}
+use Rattle.elimination_rounds.proofs.ShownLooks.{full-after, full-ended, Shown, shows_full, shows_refuted, shows_spent, shows_taken, shown, takes-taken}
 
 -- ---- the bounded rounds
 
@@ -87,7 +88,7 @@ rounds-come (suc n) vars steps rows a h =
   where
     next : (var : ℕ) (r : Result (List Row) LimitKind) → Takes vars rows var → next_rows var rows ≡ r
         → ((made : List Row) → AreRising (numbered steps [] made).rows → left vars (numbered steps [] made).rows ≤ n
-          → Comes vars (numbered steps [] made).steps (numbered steps [] made).rows (rounds n vars (numbered steps [] made).steps (numbered steps [] made).rows))
+        → Comes vars (numbered steps [] made).steps (numbered steps [] made).rows (rounds n vars (numbered steps [] made).steps (numbered steps [] made).rows))
         → Comes vars steps rows (rounds (suc n) vars steps rows)
     next var (Err kind) t e later =
         as_is vars steps rows (Err (Limit kind)) (rounds (suc n) vars steps rows) (taken-rounds n vars steps rows var (Err kind) t e) (too_large steps rows var kind t e)
@@ -99,7 +100,7 @@ rounds-come (suc n) vars steps rows a h =
 
     go : Shown vars rows
         → ((made : List Row) → AreRising (numbered steps [] made).rows → left vars (numbered steps [] made).rows ≤ n
-          → Comes vars (numbered steps [] made).steps (numbered steps [] made).rows (rounds n vars (numbered steps [] made).steps (numbered steps [] made).rows))
+        → Comes vars (numbered steps [] made).steps (numbered steps [] made).rows (rounds n vars (numbered steps [] made).steps (numbered steps [] made).rows))
         → Comes vars steps rows (rounds (suc n) vars steps rows)
     go (shows_full e) later = as_is vars steps rows (Err (Limit limit.System)) (rounds (suc n) vars steps rows) (full-rounds (suc n) vars steps rows e) (overfull steps rows e)
     go (shows_refuted line e) later =

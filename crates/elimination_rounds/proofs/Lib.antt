@@ -1,4 +1,5 @@
 pub mod Cancelling
 pub mod RoundRows
 pub mod VariablesLeft
+pub mod ShownLooks
 pub mod EndedRounds

@@ -1,5 +1,5 @@
 -- What holds of each row of a system holds of each row of the next one, where tightening and sums keep it.
-use Rattle.std.proofs.Common.{◌≡◌, ℕ, zero, suc, ℤ, pos, Bool, true, false, cond, nat_lt, int_lt, List, [], ◌∷◌, ◌++◌, length, filter, map, Result, Ok, Err, refl, sym, ◌∙◌, ap, subst, arith}
+use Rattle.std.proofs.Common.{◌≡◌, ℕ, ℤ, pos, Bool, true, false, cond, nat_lt, int_lt, List, [], ◌∷◌, ◌++◌, length, filter, map, Result, Ok, Err, refl, subst, arith}
 use Rattle.std.specs.Ordering.{int_eq}
 use Rattle.std.proofs.lemmas.Int.{ints}
 use Rattle.std.proofs.lemmas.Bool.Decides.{nat_tests}
@@ -125,7 +125,7 @@ has_none var r = int_eq (coefficient var r.terms) (pos 0)
 module _ (In P : List Term → Type 0) (cut : KeepsCuts P) (var : ℕ)
     (stays : (r : Row) → has_none var r ≡ true → In r.terms → P r.terms)
     (sums : (p n : Row) → has_positive var p ≡ true → has_negative var n ≡ true → In p.terms → In n.terms
-      → P (sum_of_two (size var p) (size var n) p n).terms) where
+    → P (sum_of_two (size var p) (size var n) p n).terms) where
   stay-all : (rows : List Row) → AreChosen In (has_none var) rows → AreAll P rows
   stay-all [] c = tt
   stay-all (r ∷ rows) c = (stays r c.0 c.1, stay-all rows c.2)

@@ -1,5 +1,5 @@
 -- The elimination without a bound on its rounds: what comes of a system, and of hypotheses and a goal.
-use Rattle.std.specs.Prelude.{◌≡◌, ℕ, Option, Some, None, List, [], length, nat_lt, Bool, true, false, Result, Ok, Err}
+use Rattle.std.specs.Prelude.{◌≡◌, ℕ, Some, None, List, [], length, nat_lt, Bool, true, false, Result, Ok, Err}
 use Rattle.xan_lin.specs.Linear.{Linear, negated_row_of}
 use Rattle.xan_lin.specs.declared.term.LimitKind.{LimitKind}
 use Rattle.xan_lin.specs.declared.term.LimitKind.TheVariants as limit
@@ -14,7 +14,8 @@ use Rattle.linear_solver.specs.Tracing.{traced}
 use Rattle.linear_solver.specs.Cone.{cone}
 use Rattle.linear_solver.specs.Elimination.{first_rows}
 
--- what a look at a system shows: its first row that cannot hold, that no variable is left, or the variable that is taken next, which its choice names
+-- what a look at a system shows: its first row that cannot hold, that no variable is left, or the variable that is taken next; a look keeps the
+-- variable of a choice alone, so that the number of its rows says nothing
 abbrev pub Refutes : List ℕ → List Row → ℕ → Type 0
 Refutes vars rows line = look_at vars rows ≡ refuted_or (Some line) None
 
@@ -30,9 +31,9 @@ pub data Comes (vars : List ℕ) : List Step → List Row → Result (List Step)
   refuted : (steps : List Step) (rows : List Row) (line : ℕ) → Refutes vars rows line → Comes vars steps rows (Ok (traced steps line))
   exhausted : (steps : List Step) (rows : List Row) → IsSpent vars rows → Comes vars steps rows (Err Unproved)
   too_large : (steps : List Step) (rows : List Row) (var : ℕ) (kind : LimitKind) → Takes vars rows var → next_rows var rows ≡ Err kind
-    → Comes vars steps rows (Err (Limit kind))
+      → Comes vars steps rows (Err (Limit kind))
   goes_on : (steps : List Step) (rows made : List Row) (var : ℕ) (answer : Result (List Step) Answer) → Takes vars rows var → next_rows var rows ≡ Ok made
-    → Comes vars (numbered steps [] made).steps (numbered steps [] made).rows answer → Comes vars steps rows answer
+      → Comes vars (numbered steps [] made).steps (numbered steps [] made).rows answer → Comes vars steps rows answer
 
 -- from the first system, unless more than 64 variables bear on the goal
 abbrev pub ComesUnless : Bool → List ℕ → List Linear → Linear → Result (List Step) Answer → Type 0
