@@ -16,3 +16,5 @@ pub mod ReturnsFare
 pub mod CellsPut
 pub mod PartsSet
 pub mod SplitsFare
+pub mod JoinParts
+pub mod JoinTypes
