@@ -18,3 +18,4 @@ pub mod PartsSet
 pub mod SplitsFare
 pub mod JoinParts
 pub mod JoinTypes
+pub mod JoinsFare

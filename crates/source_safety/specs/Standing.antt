@@ -4,14 +4,16 @@ use Rattle.std.specs.Prelude.{◌≡◌, take, ◌≤◌, ℕ, ℤ, List, ◌++�
 use Rattle.std.specs.List.{All}
 use Rattle.index_sorts.specs.Entails.{Entails, AllHold}
 use Rattle.state_types.specs.PlaceTypes.{type_at}
-use Rattle.state_types.specs.Types.{TypeBelow}
+use Rattle.state_types.specs.Types.{TypeBelow, same_kind}
 use Rattle.state_types.specs.Words.{Headers, Keeps}
 use Rattle.state_types.specs.declared.closed.Packed.{Packed}
 use Rattle.state_types.specs.declared.closed.Signature.{Signature}
 use Rattle.state_types.specs.declared.types.Ty.{Ty}
 use Rattle.operation_rules.specs.Sound.{EndsWell}
+use Rattle.xanadu_tree.specs.declared.types.CoreTy.{CoreTy}
 use Rattle.typed_core.specs.declared.goal.GoalAt.{GoalAt}
 use Rattle.typed_core.specs.Growth.{Continues, NamesSoFar}
+use Rattle.typed_core.specs.Joins.{is_named}
 use Rattle.typed_core.specs.SourceRuns.{Run, Answer, Env, Calls, Flow, Next, Gives as Returns}
 use Rattle.typed_core.specs.SourceValues.{Value, Blocks}
 use Rattle.typed_core.specs.States.{Site, State}
@@ -102,3 +104,17 @@ pub record CallsFare {L : Type 0} (table : List Packed) (sigs : List Signature) 
 abbrev pub Leaves : {L : Type 0} → (site : Site) (more : State) (width : ℕ) (assignment : List ℤ) (store : Blocks) → Flow → Run L → Type 0
 Leaves site more width assignment store (Next env) new = Goes site more env assignment store new.store × (length env ≡ width)
 Leaves site more width assignment store (Returns v) new = Came site.table site.own (take site.own.vars assignment) store v new.store
+
+-- ---- joins
+
+-- What a way into a join brings of a variable that was visible before: a type of its kind, which is the one that it had where no block changes the
+-- variable and the clause says nothing of it.
+pub record BringsOne (changed : ℕ → Bool) (vars : List (ℕ × CoreTy)) (present : List (ℕ × Ty)) (x : ℕ) (old : Ty) : Type 0 where
+  pub type : Ty
+  pub there : type_at x present ≡ Some type
+  pub kind : same_kind old type ≡ true
+  pub kept : changed x ≡ false → is_named x vars ≡ false → type ≡ old
+
+-- and of each of them
+pub record Brings (changed : ℕ → Bool) (vars : List (ℕ × CoreTy)) (before present : List (ℕ × Ty)) : Type 0 where
+  pub by : (x : ℕ) (old : Ty) → type_at x before ≡ Some old → BringsOne changed vars present x old
