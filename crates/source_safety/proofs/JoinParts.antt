@@ -1,12 +1,11 @@
 -- What a join and a way into it are made of.
-use Rattle.std.proofs.Common.{◌≡◌, ◌∙◌, ℕ, ◌+◌, List, [], ◌∷◌, ◌++◌, map, length, Bool as Truth, Option, Some, None, Result, Ok, Err, refl, sym, ap, subst}
+use Rattle.std.proofs.Common.{◌≡◌, ◌∙◌, ℕ, ◌+◌, List, [], ◌++◌, map, length, Bool as Truth, Option, Some, None, Result, Ok, Err, refl, sym, ap, subst}
 use Rattle.std.specs.List.{All, list_all}
-use Rattle.index_sorts.specs.Context.{IndexContext, with_variables}
+use Rattle.index_sorts.specs.Context.{IndexContext}
 use Rattle.index_sorts.specs.Entails.{Entails}
 use Rattle.index_sorts.specs.declared.error.ContextError.{ContextError}
 use Rattle.xan_lin.specs.Linear.{Linear}
 use Rattle.xan_lin.specs.declared.term.TooLarge.{TooLarge}
-use Rattle.state_types.specs.PlaceTypes.{type_at}
 use Rattle.state_types.specs.declared.matching.Found.{Found}
 use Rattle.state_types.specs.declared.state.StateType.{StateType}
 use Rattle.state_types.specs.declared.types.Ty.{Ty}
@@ -19,7 +18,7 @@ use Rattle.xanadu_tree.specs.declared.stmt.Clause.{Clause}
 use Rattle.typed_core.specs.Forms.{renamed}
 use Rattle.typed_core.specs.Joins.{Renewed, few_places, renewed, renewing, stated_types, with_types, leading, first_past, Joint, naming_more, stating, joined, present, within_bounds, values_at, met_there, entered}
 use Rattle.typed_core.specs.Limits.{by_rule, held}
-use Rattle.typed_core.specs.States.{Site, State, resuming, with_fresh, assuming, all_asked, none_asked, noting_state, matching}
+use Rattle.typed_core.specs.States.{Site, State, resuming, with_fresh, assuming, none_asked, noting_state, matching}
 use Rattle.typed_core.specs.Strays.{clause_rises, values_rise, row_below}
 use Rattle.typed_core.proofs.NamedStates.{answered, widened_is}
 use Rattle.source_safety.specs.Standing.{GoalsHold}

@@ -7,14 +7,13 @@ use Rattle.std.proofs.lemmas.List.{append-nil}
 use Rattle.std.proofs.lemmas.List.Elements.{All-nil, All-cons, All-head, All-tail, All-push}
 use Rattle.std.proofs.lemmas.Option.{same_Some}
 use Rattle.xan_lin.specs.Linear.{Linear, NamesBelow, variable_form}
-use Rattle.xan_lin.specs.Subst.{subst_of}
 use Rattle.xan_lin.specs.Value.{value_at, value_of}
 use Rattle.xan_lin.specs.declared.term.LimitKind.TheVariants as limit
 use Rattle.xan_lin.specs.declared.term.TooLarge.{TooLarge}
 use Rattle.xan_seq.proofs.RisingKeys.{value-with}
 use Rattle.state_types.specs.Naming.{ValuesBelow}
 use Rattle.state_types.specs.PlaceTypes.{type_at, with_type}
-use Rattle.state_types.specs.Types.{TypeBelow, index_of, subst_ty}
+use Rattle.state_types.specs.Types.{TypeBelow, index_of}
 use Rattle.state_types.specs.declared.types.Ty.{Ty}
 use Rattle.state_types.proofs.FormNames.{below-subst}
 use Rattle.state_types.proofs.RowNames.{replaced-type}
@@ -24,7 +23,7 @@ use Rattle.xanadu_tree.specs.declared.types.CoreTy.{CoreTy}
 use Rattle.typed_core.specs.Forms.{form_of, type_of, renamed, renamed_type}
 use Rattle.typed_core.specs.Growth.{Continues}
 use Rattle.typed_core.specs.Joins.{is_named, with_index, Renewed, is_renewed, with_entry, renewed, stated_types, with_types, leading, present, index_at, values_at}
-use Rattle.typed_core.specs.Limits.{Walk, within, needed}
+use Rattle.typed_core.specs.Limits.{within, needed}
 use Rattle.typed_core.specs.States.{there}
 use Rattle.typed_core.proofs.Continued.{no_more, one_more, more_again}
 

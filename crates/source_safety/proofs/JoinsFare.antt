@@ -1,14 +1,12 @@
 -- A run that comes to a join stands at the state that is stated there.
-use Rattle.std.proofs.Common.{◌≡◌, ◌∙◌, ℕ, zero, suc, ◌+◌, ◌-◌, ◌*◌, ◌≤◌, ℤ, pos, ◌⊎◌, inl, inr, List, [], ◌∷◌, ◌++◌, map, length, length-append, replicate, take, get_or, Bool as Truth, true, false, cond, Option, Some, None, Result, Ok, Err, refl, sym, ap, subst, arith}
-use Rattle.std.specs.Prelude.{◌==◌, ◌&&◌, not}
+use Rattle.std.proofs.Common.{◌≡◌, ◌∙◌, ℕ, zero, suc, ◌+◌, ◌-◌, ◌*◌, ◌≤◌, ℤ, pos, ◌⊎◌, inl, inr, List, [], ◌∷◌, ◌++◌, map, length, length-append, replicate, take, get_or, Bool as Truth, true, false, Some, None, Result, Ok, Err, refl, sym, ap, subst, arith}
+use Rattle.std.specs.Prelude.{◌&&◌, not}
 use Rattle.std.specs.List.{All, AllZip}
 use Rattle.std.proofs.lemmas.Bool.Decides.{Decides-eqb}
 use Rattle.std.proofs.lemmas.List.{length-replicate}
 use Rattle.std.proofs.lemmas.List.Elements.{All-nil, All-cons, All-head, All-tail}
 use Rattle.std.proofs.lemmas.Option.{same_Some}
-use Rattle.index_sorts.specs.Context.{IndexContext}
 use Rattle.index_sorts.specs.Entails.{AllHold}
-use Rattle.index_sorts.specs.Known.{with_row}
 use Rattle.xan_lin.specs.Linear.{Linear, NamesBelow, variable_form}
 use Rattle.xan_lin.specs.Subst.{given_values, values_from}
 use Rattle.xan_lin.specs.Value.{value_at, value_of, Holds}
@@ -17,14 +15,12 @@ use Rattle.state_types.specs.Naming.{ValuesBelow}
 use Rattle.state_types.specs.PlaceTypes.{type_at}
 use Rattle.state_types.specs.Sound.{Carries}
 use Rattle.state_types.specs.Types.{TypeBelow, same_kind, index_of}
-use Rattle.state_types.specs.Words.{Headers, HasType, IsBlock, Keeps}
+use Rattle.state_types.specs.Words.{Headers, HasType, IsBlock}
 use Rattle.state_types.specs.declared.types.Ty.{Ty}
 use Rattle.state_types.specs.declared.types.Ty.TheVariants as ty
 use Rattle.state_types.proofs.Edges.{type_at-all}
 use Rattle.state_types.proofs.Pairing.{match_sound}
 use Rattle.state_types.proofs.Unpacked.{value-front, present_keeps, holds-front}
-use Rattle.operation_rules.specs.Applied as rules
-use Rattle.operation_rules.specs.Applied.{all_assuming}
 use Rattle.operation_rules.specs.Forms.{variables_from}
 use Rattle.operation_rules.proofs.BlocksFound.{matching_is}
 use Rattle.operation_rules.proofs.ListedValues.{lists_of, result_values, variable_is}
@@ -34,7 +30,7 @@ use Rattle.operation_rules.proofs.RuleFacts.{OkHolds, assuming_grows}
 use Rattle.xanadu_tree.specs.declared.stmt.Clause.{Clause}
 use Rattle.xanadu_tree.specs.declared.types.CoreTy.{CoreTy}
 use Rattle.typed_core.specs.Growth.{Continues, NamesSoFar}
-use Rattle.typed_core.specs.Joins.{is_named, is_renewed, with_index, Renewed, renewed, with_types, leading, first_past, Joint, joined, entered}
+use Rattle.typed_core.specs.Joins.{is_named, is_renewed, with_index, Renewed, with_types, leading, first_past, Joint, joined, entered}
 use Rattle.typed_core.specs.SourceRuns.{Env}
 use Rattle.typed_core.specs.SourceValues.{Tag, Value, Blocks}
 use Rattle.typed_core.specs.States.{Site, State, point, noting_state}
@@ -44,7 +40,7 @@ use Rattle.source_safety.specs.Values.{headers_of, HasValue, tag_for, tags_for}
 use Rattle.source_safety.specs.Standing.{GoalsHold, VariableHolds, VariablesHold, Stands, Goes, BringsOne, Brings}
 use Rattle.source_safety.proofs.FaredOn.{keeps_all, value_waits, variables_wait}
 use Rattle.source_safety.proofs.JoinParts.{IsJoined, joined_is, IsEntered, entered_is}
-use Rattle.source_safety.proofs.JoinTypes.{renewed_kept, IsFresh, IsKept, IsOther, others_unnamed, EntryBelow, stated_below, leading_below, presents_are, HasIndex, Indices, indices_are, index_of_other, stated_over}
+use Rattle.source_safety.proofs.JoinTypes.{renewed_kept, IsFresh, IsKept, others_unnamed, EntryBelow, stated_below, leading_below, presents_are, HasIndex, Indices, indices_are, index_of_other, stated_over}
 use Rattle.source_safety.proofs.MatchTags.{matching_tags}
 
 -- ---- lists
@@ -300,4 +296,4 @@ module _ (site : Site) (clause : Clause) (changed : ℕ → Truth) (st latest en
       let j = joined_is site clause changed (point st) latest p is in
       let way = entered_is site at joint (point end) here more enters goals in
       subst (λ (q : Joint × State). Goes site q.1 env base old new) j.is
-          (made_stands p j (subst (λ (q : Joint × State). IsEntered q.0 (point end)) (sym j.is) way) (subst (λ (q : Joint × State). NamesSoFar q.1) (sym j.is) named))
+      (made_stands p j (subst (λ (q : Joint × State). IsEntered q.0 (point end)) (sym j.is) way) (subst (λ (q : Joint × State). NamesSoFar q.1) (sym j.is) named))

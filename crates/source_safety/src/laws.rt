@@ -1,19 +1,24 @@
 //! What goes well where all goals hold.
 
-ghost use Rattle.std.specs.Prelude.{◌≡◌, ℕ, ◌<◌, ℤ, List, length, Option, Ok, All};
+ghost use Rattle.std.specs.Prelude.{◌≡◌, ℕ, ◌<◌, ◌≤◌, ℤ, Bool, List, length, Option, Ok, All};
 ghost use Rattle.operation_rules.specs.Sound.{IsSetting};
-ghost use Rattle.source_safety.specs.Standing.{GoalsHold, Stands, Goes, Gives, CallsFare, Fares, Leaves, side_state};
+ghost use Rattle.source_safety.specs.Standing.{GoalsHold, Stands, Goes, Gives, CallsFare, Fares, Leaves, Brings, side_state};
+ghost use Rattle.state_types.specs.Naming.{ValuesBelow};
 ghost use Rattle.state_types.specs.declared.types.Ty.{Ty};
 ghost use Rattle.typed_core.specs.Constructs.{setting_of};
+ghost use Rattle.typed_core.specs.Growth.{NamesSoFar};
+ghost use Rattle.typed_core.specs.Joins.{Joint, joined, entered};
 ghost use Rattle.typed_core.specs.Operands.{operand};
 ghost use Rattle.typed_core.specs.SourceOperands.{value};
 ghost use Rattle.typed_core.specs.SourceRuns.{Calls, Env, Place, Recorder, Run};
 ghost use Rattle.typed_core.specs.SourceStatements.{statement};
 ghost use Rattle.typed_core.specs.SourceTests.{holds};
-ghost use Rattle.typed_core.specs.States.{Site, State};
+ghost use Rattle.typed_core.specs.SourceValues.{Blocks};
+ghost use Rattle.typed_core.specs.States.{Site, State, point};
 ghost use Rattle.typed_core.specs.Statements.{assigned, split, store, done, printed, returning};
 ghost use Rattle.typed_core.specs.Tests.{Sides, tested};
 ghost use Rattle.xanadu_tree.specs.Plain as core;
+ghost use Rattle.xanadu_tree.specs.declared.stmt.Clause.{Clause};
 
 /// An expression that was elaborated, whose goals hold, goes well from where its state stands: no part of it is stuck, and its value has its type
 /// under an assignment that begins with the one before.
@@ -59,4 +64,14 @@ pub fn simple_statements_fare<L>()
         (assignment : List ℤ) (run : Run L) (e : Option core.Expr) (at : ℕ) → IsSetting (setting_of site) → CallsFare site.table site.sigs call
         → returning site e at st ≡ Ok more → GoalsHold more.goals → Stands site st env assignment run.store
         → Fares (Leaves site more (length env) assignment run.store) (statement recorder call fun bound place (core.Return e at) env run) }
+{}
+
+/// A run that comes to a join by a way in whose goals hold stands at the state that is stated there, under an assignment that begins with the one
+/// under which it stood before the blocks that meet.
+pub fn joins_fare()
+    ensures { (site : Site) (clause : Clause) (changed : ℕ → Bool) (at : ℕ) (st latest end here start more : State) (joint : Joint) (before env : Env)
+        (assignment : List ℤ) (old new : Blocks) → joined site clause changed (point st) latest ≡ Ok (joint, start)
+        → entered site at joint (point end) here ≡ Ok more → GoalsHold more.goals → st.ctx.vars ≤ latest.ctx.vars
+        → ValuesBelow latest.ctx.vars latest.naming → NamesSoFar start → Stands site st before assignment old
+        → Goes site end env assignment old new → Brings changed clause.vars st.types end.types → Goes site start env assignment old new }
 {}

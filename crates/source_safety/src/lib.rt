@@ -6,4 +6,4 @@
 
 mod laws;
 
-pub use crate::laws::{expressions_fare, simple_statements_fare, tests_fare};
+pub use crate::laws::{expressions_fare, joins_fare, simple_statements_fare, tests_fare};
