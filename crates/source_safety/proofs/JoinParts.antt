@@ -1,5 +1,5 @@
 -- What a join and a way into it are made of.
-use Rattle.std.proofs.Common.{◌≡◌, ◌∙◌, ℕ, ◌+◌, List, [], ◌++◌, map, length, Bool as Truth, Option, Some, None, Result, Ok, Err, refl, sym, ap, subst}
+use Rattle.std.proofs.Common.{◌≡◌, ◌∙◌, ℕ, ◌+◌, List, [], ◌++◌, map, length, Bool as Truth, Option, Some, None, Result, Ok, refl, sym, ap, subst}
 use Rattle.std.specs.List.{All, list_all}
 use Rattle.index_sorts.specs.Context.{IndexContext}
 use Rattle.index_sorts.specs.Entails.{Entails}
@@ -14,6 +14,7 @@ use Rattle.operation_rules.specs.Applied.{widened, all_assuming}
 use Rattle.operation_rules.specs.Faults.{filled}
 use Rattle.operation_rules.specs.Forms.{variables_from}
 use Rattle.operation_rules.specs.Rules as rules
+use Rattle.operation_rules.proofs.RuleFacts.{filled_ok}
 use Rattle.xanadu_tree.specs.declared.stmt.Clause.{Clause}
 use Rattle.typed_core.specs.Forms.{renamed}
 use Rattle.typed_core.specs.Joins.{Renewed, few_places, renewed, renewing, stated_types, with_types, leading, first_past, Joint, naming_more, stating, joined, present, within_bounds, values_at, met_there, entered}
@@ -23,10 +24,6 @@ use Rattle.typed_core.specs.Strays.{clause_rises, values_rise, row_below}
 use Rattle.typed_core.proofs.NamedStates.{answered, widened_is}
 use Rattle.source_safety.specs.Standing.{GoalsHold}
 use Rattle.source_safety.proofs.Demanded.{asked_hold, by_rule_ok}
-
-filled_ok : (m : Result IndexContext ContextError) (x : IndexContext) → by_rule (filled m) ≡ Ok x → m ≡ Ok x
-filled_ok (Ok y) x e = ap (λ z. let r : Result IndexContext ContextError = Ok z in r) (ok_same y x e)
-filled_ok (Err f) x e = absurd (let bad : ⊥ = cc in bad)
 
 -- so many index variables more, and nothing else
 pub record Widened (count : ℕ) (st more : State) : Type 0 where
@@ -38,7 +35,7 @@ fresh_is : (count : ℕ) (st more : State) → with_fresh count st ≡ Ok more �
 unfolding with_fresh
 fresh_is count st more e =
     let s = then_ok (by_rule (filled (widened count st.ctx))) _ more e in
-    let is = answered (widened count st.ctx) s.value (widened_is count st.ctx) (filled_ok (widened count st.ctx) s.value s.first) in
+    let is = answered (widened count st.ctx) s.value (widened_is count st.ctx) (filled_ok (widened count st.ctx) s.value (by_rule_ok (filled (widened count st.ctx)) s.value s.first)) in
     subst (Widened count st) (ok_same _ more s.second) (record { vars = ap (λ c. c.vars) is; rows = ap (λ c. c.rows) is; naming = refl })
 
 -- ---- the state
@@ -79,7 +76,7 @@ stating_is naming own clause st p e =
     let known = ok_same _ v.value w.second in
     subst (IsStating naming own clause st) (ok_same (rows, v.value) p v.second) (record {
       renames = refl;
-      assumes = filled_ok (all_assuming rows st.ctx) w.value w.first ∙ ap (λ (s : State). let r : Result IndexContext ContextError = Ok s.ctx in r) known;
+      assumes = filled_ok (all_assuming rows st.ctx) w.value (by_rule_ok (filled (all_assuming rows st.ctx)) w.value w.first) ∙ ap (λ (s : State). let r : Result IndexContext ContextError = Ok s.ctx in r) known;
       names = ap (λ (s : State). s.naming) (sym known);
     })
 

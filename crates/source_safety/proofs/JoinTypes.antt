@@ -58,15 +58,15 @@ found_behind x (e ∷ es) more h = by_test (e.0 == x) h (λ g. found_behind x es
 -- ---- fresh indices
 
 -- both lists only become more
-record Longer (made more : Renewed) : Type 0 where
-  types : Continues made.types more.types
-  others : Continues made.others more.others
+pub record Longer (made more : Renewed) : Type 0 where
+  pub types : Continues made.types more.types
+  pub others : Continues made.others more.others
 
 entry_longer : (b : Truth) (first : ℕ) (e : ℕ × Ty) (made : Renewed) → Longer made (with_entry b first e made)
 entry_longer false first e made = record { types = one_more made.types e; others = no_more made.others }
 entry_longer true first e made = record { types = one_more made.types _; others = one_more made.others e.0 }
 
-renewed_longer : (changed : ℕ → Truth) (vars : List (ℕ × CoreTy)) (first : ℕ) (entries : List (ℕ × Ty)) (made : Renewed) → Longer made (renewed changed vars first entries made)
+pub renewed_longer : (changed : ℕ → Truth) (vars : List (ℕ × CoreTy)) (first : ℕ) (entries : List (ℕ × Ty)) (made : Renewed) → Longer made (renewed changed vars first entries made)
 unfolding renewed
 renewed_longer changed vars first [] made = record { types = no_more made.types; others = no_more made.others }
 renewed_longer changed vars first (e ∷ es) made =

@@ -35,10 +35,13 @@ use Rattle.typed_core.specs.SourceRuns.{Env}
 use Rattle.typed_core.specs.SourceValues.{Tag, Value, Blocks}
 use Rattle.typed_core.specs.States.{Site, State, point, noting_state}
 use Rattle.typed_core.proofs.Continued.{some_more, more_again}
+use Rattle.typed_core.proofs.GrownContexts.{rows_more}
 use Rattle.typed_core.proofs.NamedJoins.{values_more}
+use Rattle.typed_core.proofs.NamedStates.{types_more}
 use Rattle.source_safety.specs.Values.{headers_of, HasValue, tag_for, tags_for}
 use Rattle.source_safety.specs.Standing.{GoalsHold, VariableHolds, VariablesHold, Stands, Goes, BringsOne, Brings}
 use Rattle.source_safety.proofs.FaredOn.{keeps_all, value_waits, variables_wait}
+use Rattle.source_safety.proofs.JoinNames.{joined_named}
 use Rattle.source_safety.proofs.JoinParts.{IsJoined, joined_is, IsEntered, entered_is}
 use Rattle.source_safety.proofs.JoinTypes.{renewed_kept, IsFresh, IsKept, others_unnamed, EntryBelow, stated_below, leading_below, presents_are, HasIndex, Indices, indices_are, index_of_other, stated_over}
 use Rattle.source_safety.proofs.MatchTags.{matching_tags}
@@ -191,14 +194,15 @@ module _ (env : Env) (headers : Headers) where
 -- ---- the whole
 
 -- over so many index variables at least; those that the run has not met are 0
-record IsPadded (site : Site) (end : State) (env : Env) (least : ℕ) (store : Blocks) (before : List ℤ) : Type 0 where
-  full : List ℤ
-  long : least ≤ length full
-  front : Continues before full
-  hold : AllHold full end.ctx.rows
-  typed : VariablesHold env (headers_of store) full end.types
+pub record IsPadded (site : Site) (end : State) (env : Env) (least : ℕ) (store : Blocks) (before : List ℤ) : Type 0 where
+  pub full : List ℤ
+  pub long : least ≤ length full
+  pub exact : length before ≤ least → length full ≡ least
+  pub front : Continues before full
+  pub hold : AllHold full end.ctx.rows
+  pub typed : VariablesHold env (headers_of store) full end.types
 
-padded : (site : Site) (end : State) (env : Env) (assignment : List ℤ) (least : ℕ) (store : Blocks) → Stands site end env assignment store → IsPadded site end env least store assignment
+pub padded : (site : Site) (end : State) (env : Env) (assignment : List ℤ) (least : ℕ) (store : Blocks) → Stands site end env assignment store → IsPadded site end env least store assignment
 padded site end env assignment least store stands =
     let zeros = replicate (least - length assignment) (pos 0) in
     let many = length-append assignment zeros in
@@ -208,6 +212,7 @@ padded site end env assignment least store stands =
     record {
       full = assignment ++ zeros;
       long = omega (arith, many, of);
+      exact = λ le. omega (arith, many, of, le);
       front = some_more assignment zeros;
       hold = holds-front assignment zeros end.ctx.rows rows stands.hold;
       typed = variables_wait (headers_of store) (headers_of store) assignment (assignment ++ zeros) (keeps_all (headers_of store)) (some_more assignment zeros) env end.types types stands.typed;
@@ -290,10 +295,14 @@ module _ (site : Site) (clause : Clause) (changed : ℕ → Truth) (st latest en
       }
 
   pub entered_stands : (at : ℕ) (here start more : State) (joint : Joint) → joined site clause changed (point st) latest ≡ Ok (joint, start) → entered site at joint (point end) here ≡ Ok more
-      → GoalsHold more.goals → NamesSoFar start → Goes site start env base old new
-  entered_stands at here start more joint is enters goals named =
+      → GoalsHold more.goals → Goes site start env base old new
+  entered_stands at here start more joint is enters goals =
       let p : Joint × State = (joint, start) in
       let j = joined_is site clause changed (point st) latest p is in
       let way = entered_is site at joint (point end) here more enters goals in
+      let own = stands.own in
+      let first = latest.ctx.vars in
+      let named = joined_named site clause changed (point st) latest (omega (arith, le, own)) listed (rows_more st.ctx.vars first st.ctx.rows le stands.named.rows)
+      (types_more st.ctx.vars first st.types le stands.named.types) joint start is in
       subst (λ (q : Joint × State). Goes site q.1 env base old new) j.is
       (made_stands p j (subst (λ (q : Joint × State). IsEntered q.0 (point end)) (sym j.is) way) (subst (λ (q : Joint × State). NamesSoFar q.1) (sym j.is) named))

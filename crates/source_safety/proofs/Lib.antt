@@ -18,4 +18,6 @@ pub mod PartsSet
 pub mod SplitsFare
 pub mod JoinParts
 pub mod JoinTypes
+pub mod JoinNames
 pub mod JoinsFare
+pub mod GoingOn

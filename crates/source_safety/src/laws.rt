@@ -6,7 +6,6 @@ ghost use Rattle.source_safety.specs.Standing.{GoalsHold, Stands, Goes, Gives, C
 ghost use Rattle.state_types.specs.Naming.{ValuesBelow};
 ghost use Rattle.state_types.specs.declared.types.Ty.{Ty};
 ghost use Rattle.typed_core.specs.Constructs.{setting_of};
-ghost use Rattle.typed_core.specs.Growth.{NamesSoFar};
 ghost use Rattle.typed_core.specs.Joins.{Joint, joined, entered};
 ghost use Rattle.typed_core.specs.Operands.{operand};
 ghost use Rattle.typed_core.specs.SourceOperands.{value};
@@ -15,10 +14,11 @@ ghost use Rattle.typed_core.specs.SourceStatements.{statement};
 ghost use Rattle.typed_core.specs.SourceTests.{holds};
 ghost use Rattle.typed_core.specs.SourceValues.{Blocks};
 ghost use Rattle.typed_core.specs.States.{Site, State, point};
-ghost use Rattle.typed_core.specs.Statements.{assigned, split, store, done, printed, returning};
+ghost use Rattle.typed_core.specs.Statements.{assigned, split, store, done, going_on, printed, returning};
 ghost use Rattle.typed_core.specs.Tests.{Sides, tested};
 ghost use Rattle.xanadu_tree.specs.Plain as core;
 ghost use Rattle.xanadu_tree.specs.declared.stmt.Clause.{Clause};
+ghost use Rattle.xanadu_tree.specs.declared.types.CoreTy.{CoreTy};
 
 /// An expression that was elaborated, whose goals hold, goes well from where its state stands: no part of it is stuck, and its value has its type
 /// under an assignment that begins with the one before.
@@ -67,11 +67,15 @@ pub fn simple_statements_fare<L>()
 {}
 
 /// A run that comes to a join by a way in whose goals hold stands at the state that is stated there, under an assignment that begins with the one
-/// under which it stood before the blocks that meet.
+/// under which it stood before the blocks that meet. So it does where a branch completes and nothing is stated, and its end goes on.
 pub fn joins_fare()
-    ensures { (site : Site) (clause : Clause) (changed : ℕ → Bool) (at : ℕ) (st latest end here start more : State) (joint : Joint) (before env : Env)
+    ensures entered { (site : Site) (clause : Clause) (changed : ℕ → Bool) (at : ℕ) (st latest end here start more : State) (joint : Joint) (before env : Env)
         (assignment : List ℤ) (old new : Blocks) → joined site clause changed (point st) latest ≡ Ok (joint, start)
         → entered site at joint (point end) here ≡ Ok more → GoalsHold more.goals → st.ctx.vars ≤ latest.ctx.vars
-        → ValuesBelow latest.ctx.vars latest.naming → NamesSoFar start → Stands site st before assignment old
+        → ValuesBelow latest.ctx.vars latest.naming → Stands site st before assignment old
         → Goes site end env assignment old new → Brings changed clause.vars st.types end.types → Goes site start env assignment old new }
+    ensures goes_on { (site : Site) (changed : ℕ → Bool) (vars : List (ℕ × CoreTy)) (st latest end : State) (before env : Env) (assignment : List ℤ)
+        (old new : Blocks) → st.ctx.vars ≤ latest.ctx.vars → end.ctx.vars ≤ latest.ctx.vars → Stands site st before assignment old
+        → Goes site end env assignment old new → Brings changed vars st.types end.types
+        → Goes site (going_on (point st) (point end) latest) env assignment old new }
 {}
