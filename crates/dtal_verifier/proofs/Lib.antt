@@ -1,0 +1,9 @@
+pub mod WalkParts
+pub mod AloneTurns
+pub mod SignaturesTurns
+pub mod StepsSame
+pub mod WalksSame
+pub mod DeclaredNames
+pub mod StandingStates
+pub mod PlacesTurns
+pub mod Accepting

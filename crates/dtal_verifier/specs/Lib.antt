@@ -1,0 +1,5 @@
+pub mod Code
+pub mod Views
+pub mod Proving
+pub mod Walks
+pub mod Steps
