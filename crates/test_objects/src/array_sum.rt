@@ -1,11 +1,14 @@
-//! The sum of an array as a program of the text, built piece by piece and printed.
+//! The sum of an array as a program of the text, built piece by piece: it is printed, verified and assembled.
 
 ghost use Rattle.std.specs.Prelude.{◌≡◌, ◌++◌, IfSome, [], ◌∷◌, pos};
 ghost use Rattle.dtal_code.specs.declared.instruction.Op.TheVariants as ops;
 ghost use Rattle.dtal_code.proofs.ArraySums as by_hand;
+ghost use Rattle.dtal_code.specs.Acceptance.{Accepted};
 
+use dtal_assembler::assemble;
 use dtal_code::instruction::Op;
-use dtal_code::{Block, Cmp, DtalProgram, Function, Instr, LabelState, print};
+use dtal_code::{Block, Cmp, DtalProgram, Function, Instr, LabelState, Object, print};
+use dtal_verifier::{Verified, verify};
 use proof_lines::Line;
 use state_types::{Places, Signature, Ty};
 use std::alloc::Global;
@@ -272,5 +275,56 @@ fn array_sum_is_printed(rt: HostRuntime) -> Result<(), Fail> {
     let program = array_sum(rt.alloc()).ok_or("memory")?;
     let text = printed(rt.alloc(), &program).ok_or("memory")?;
     assert!(rt; text.as_slice() == TEXT);
+    Ok(())
+}
+
+fn verified(alloc: Global, program: DtalProgram) -> Option<Verified>
+    requires { program ≡ by_hand.array_sum }
+    ensures { IfSome result (λ found. Accepted found.program) }
+{
+    verify(alloc, program).ok()
+}
+
+fn assembled(alloc: Global, verified: &Verified) -> Option<Object>
+    requires { Accepted verified.now.program }
+{
+    assemble(alloc, verified.program()).ok()
+}
+
+// Two words for each instruction: its operation and places by bytes, the last byte first, and then its number or the instruction to which it
+// leads.
+const WORDS: &[u64] = &[
+    0x01_01,
+    0,
+    0x02_01,
+    0,
+    0x0d,
+    3,
+    0x00_03_10,
+    0,
+    0x01_03_01_0a,
+    10,
+    0x01_00_03_11,
+    0,
+    0x03_02_02_04,
+    0,
+    0x03_01,
+    1,
+    0x03_01_01_04,
+    0,
+    0x0d,
+    3,
+    0x02_0f,
+    0,
+];
+
+#[test]
+fn array_sum_is_accepted_and_assembled(rt: HostRuntime) -> Result<(), Fail> {
+    let program = array_sum(rt.alloc()).ok_or("memory")?;
+    let program = verified(rt.alloc(), program).ok_or("refused")?;
+    let object = assembled(rt.alloc(), &program).ok_or("memory")?;
+    assert!(rt; object.words.as_slice() == WORDS);
+    assert!(rt; object.starts.as_slice() == [0].as_slice());
+    assert!(rt; object.main == 0);
     Ok(())
 }
