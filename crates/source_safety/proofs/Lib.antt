@@ -21,3 +21,4 @@ pub mod JoinTypes
 pub mod JoinNames
 pub mod JoinsFare
 pub mod GoingOn
+pub mod BranchesMeet
