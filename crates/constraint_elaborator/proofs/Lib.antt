@@ -3,6 +3,6 @@ pub mod BlockEnds
 pub mod PlaceLists
 pub mod Contexts
 pub mod Declared
-pub mod JoinParts
+pub mod JoinFailures
 pub mod BlockParts
 pub mod BlockSizes

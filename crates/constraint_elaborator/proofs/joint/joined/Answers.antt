@@ -8,7 +8,7 @@ use Rattle.constraint_elaborator.specs.Changed.{changed_by}
 use Rattle.constraint_elaborator.specs.JoinViews.{renewed_of}
 use Rattle.expression_elaborator.specs.Views.{site_of, state_of}
 use Rattle.typed_core.specs.Joins.{stated, stated_types}
-use Rattle.constraint_elaborator.proofs.JoinParts.{joined_rows_fail, joined_types_fail}
+use Rattle.constraint_elaborator.proofs.JoinFailures.{joined_rows_fail, joined_types_fail}
 use Rattle.constraint_elaborator.proofs.joint.joined.Goals as goal
 
 pub push_variables-requires-clause-count : goal.push_variables-requires-clause-count

@@ -9,7 +9,7 @@ use Rattle.xan_lin.specs.Linear.{Linear}
 use Rattle.expression_elaborator.specs.Views.{state_of}
 use Rattle.typed_core.specs.Joins.{stated}
 use Rattle.typed_core.specs.Strays.{row_below, values_rise}
-use Rattle.constraint_elaborator.proofs.JoinParts.{stating_fails}
+use Rattle.constraint_elaborator.proofs.JoinFailures.{stating_fails}
 use Rattle.constraint_elaborator.proofs.joint.state_rows.Goals as goal
 
 pub returns-in_err-assume_rows-clause-stated : goal.returns-in_err-assume_rows-clause-stated

@@ -1,6 +1,6 @@
 use Rattle.std.proofs.Common.{◌+◌, ◌<◌, arith}
 use Rattle.expression_elaborator.specs.Views.{state_of}
-use Rattle.constraint_elaborator.proofs.JoinParts.{too_many_fresh}
+use Rattle.constraint_elaborator.proofs.JoinFailures.{too_many_fresh}
 use Rattle.constraint_elaborator.proofs.renewing.add_fresh.Goals as goal
 
 pub returns-in_default-clause-moved : goal.returns-in_default-clause-moved

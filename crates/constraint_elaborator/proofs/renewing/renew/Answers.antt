@@ -6,7 +6,7 @@ use Rattle.expression_elaborator.specs.Views.{state_of}
 use Rattle.expression_elaborator.specs.declared.error.Stop.{Stop}
 use Rattle.state_types.specs.PlaceTypes.{PlacesRise}
 use Rattle.typed_core.specs.Joins.{Renewed, few_places, renewing, stated}
-use Rattle.constraint_elaborator.proofs.JoinParts.{renewing_over}
+use Rattle.constraint_elaborator.proofs.JoinFailures.{renewing_over}
 use Rattle.constraint_elaborator.proofs.PlaceLists.{places_few, renewed-rises}
 use Rattle.constraint_elaborator.proofs.renewing.renew.Goals as goal
 
