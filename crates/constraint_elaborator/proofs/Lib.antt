@@ -1,5 +1,5 @@
 pub mod BranchEnds
-pub mod BlockEnds
+pub mod CompletingBlocks
 pub mod PlaceLists
 pub mod Contexts
 pub mod Declared

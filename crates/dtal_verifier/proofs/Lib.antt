@@ -1,4 +1,4 @@
-pub mod WalkParts
+pub mod VerdictParts
 pub mod AloneTurns
 pub mod SignaturesTurns
 pub mod StepsSame

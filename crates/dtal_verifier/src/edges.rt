@@ -142,7 +142,7 @@ fn taken_side(
 }
 
 // The edge to a label, with the lines of what it demands, and the context that goes on.
-#[tactic(auto, using(crate::proofs::WalkParts::ruled_fails), unfolding(crate::specs::Steps::edge_by))]
+#[tactic(auto, using(crate::proofs::VerdictParts::ruled_fails), unfolding(crate::specs::Steps::edge_by))]
 fn keep_edge(
     site: &Site<'_>,
     checker: &mut Checker,
@@ -171,7 +171,7 @@ fn keep_edge(
 }
 
 // The operation has a rule for what it reads.
-#[tactic(auto, using(crate::proofs::WalkParts::ruled_fails), unfolding(crate::specs::Steps::kinds_by))]
+#[tactic(auto, using(crate::proofs::VerdictParts::ruled_fails), unfolding(crate::specs::Steps::kinds_by))]
 fn check_kinds(site: &Site<'_>, op: &Operation, types: &[Ty], ctx: &Context) -> Result<(), Broken>
     requires site { IsSite site.now }
     requires below { All (TypeBelow ctx.now.vars) types.now }

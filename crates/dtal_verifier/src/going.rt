@@ -43,7 +43,7 @@ pub(crate) fn rule_in(
 }
 
 // The rule of an operation is applied, and lines prove what it demands in the context before it. The types that it gives.
-#[tactic(auto, using(crate::proofs::WalkParts::ruled_fails), unfolding(crate::specs::Steps::kept_by))]
+#[tactic(auto, using(crate::proofs::VerdictParts::ruled_fails), unfolding(crate::specs::Steps::kept_by))]
 fn keep_rule(
     site: &Site<'_>,
     checker: &mut Checker,

@@ -80,7 +80,7 @@ fn check_instruction(
 }
 
 /// The same, told with the instruction's number.
-#[tactic(auto, using(crate::proofs::WalkParts::place_fails))]
+#[tactic(auto, using(crate::proofs::VerdictParts::place_fails))]
 pub(crate) fn check_instruction_at(
     site: &Site<'_>,
     checker: &mut Checker,

@@ -122,7 +122,7 @@ fn types_there(alloc: Global, places: &Places, mut reads: &[u8]) -> Result<Vec<T
 }
 
 /// The types of the places that an instruction reads.
-#[tactic(auto, using(crate::proofs::WalkParts::ruled_fails))]
+#[tactic(auto, using(crate::proofs::VerdictParts::ruled_fails))]
 pub(crate) fn present_types(
     site: &Site<'_>,
     action: &Action,
@@ -136,7 +136,7 @@ pub(crate) fn present_types(
 }
 
 /// The same, once what it names is there and it writes no place twice.
-#[tactic(auto, using(crate::proofs::WalkParts::ruled_fails), unfolding(crate::specs::Steps::reads_by))]
+#[tactic(auto, using(crate::proofs::VerdictParts::ruled_fails), unfolding(crate::specs::Steps::reads_by))]
 pub(crate) fn read_types(
     site: &Site<'_>,
     action: &Action,

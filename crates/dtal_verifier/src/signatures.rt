@@ -81,7 +81,7 @@ fn check_signature(types: &[Packed], before: &[Function], fun: &Function) -> Res
 }
 
 // The same of the function of a number among all, told with it.
-#[tactic(auto, using(crate::proofs::WalkParts::place_fails))]
+#[tactic(auto, using(crate::proofs::VerdictParts::place_fails))]
 fn check_signature_at(
     types: &[Packed],
     before: &[Function],
@@ -187,7 +187,7 @@ fn check_main(program: &DtalProgram) -> Result<(), Broken>
 }
 
 /// The same, told with the place.
-#[tactic(auto, using(crate::proofs::WalkParts::place_fails))]
+#[tactic(auto, using(crate::proofs::VerdictParts::place_fails))]
 pub(crate) fn check_program(program: &DtalProgram) -> Result<(), VerifyError>
     ensures { Passes (λ _. tt) result (at_place where_is.Program (spec.program_verdict program.now)) }
 {

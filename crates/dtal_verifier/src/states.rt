@@ -61,7 +61,7 @@ fn stated(alloc: Global, vars: u32, rows: &[Form]) -> Result<Context, RuleError>
 }
 
 // The state type in which these rows hold and places have these types.
-#[tactic(auto, using(crate::proofs::WalkParts::ruled_fails), unfolding(dtal_code::specs::Declarations::state_with))]
+#[tactic(auto, using(crate::proofs::VerdictParts::ruled_fails), unfolding(dtal_code::specs::Declarations::state_with))]
 fn state_with(alloc: Global, vars: u32, rows: &[Form], places: Places) -> Result<StateType, Broken>
     requires { All (NamesBelow vars) rows.now }
     ensures stated { Gives (λ state. state) result (spec.state_with vars rows.now places) }
@@ -102,7 +102,7 @@ fn first_state(alloc: Global, sig: &Signature) -> Result<StateType, Broken>
 }
 
 /// The same, told with the function's number.
-#[tactic(auto, using(crate::proofs::WalkParts::place_fails))]
+#[tactic(auto, using(crate::proofs::VerdictParts::place_fails))]
 pub(crate) fn begin_function(
     alloc: Global,
     sig: &Signature,
@@ -167,7 +167,7 @@ fn label_state(
 }
 
 /// The same, told with the function's number and the label's.
-#[tactic(auto, using(crate::proofs::WalkParts::place_fails))]
+#[tactic(auto, using(crate::proofs::VerdictParts::place_fails))]
 pub(crate) fn begin_block(
     alloc: Global,
     types: &[Packed],

@@ -53,7 +53,7 @@ fn check_type(types: &[Packed], packed: &Packed) -> Result<(), Broken>
 }
 
 // The same, told with the type's number.
-#[tactic(auto, using(crate::proofs::WalkParts::place_fails))]
+#[tactic(auto, using(crate::proofs::VerdictParts::place_fails))]
 fn check_type_at(types: &[Packed], packed: &Packed, number: u32) -> Result<(), VerifyError>
     ensures { Passes (λ _. tt) result (at_place (where_is.Types number) (spec.packed_verdict (table_with types.now) packed.now)) }
 {

@@ -1,5 +1,5 @@
 use Rattle.xanadu_tree.specs.PlainOf.{plain_block}
-use Rattle.constraint_elaborator.proofs.BlockEnds.{ends-all}
+use Rattle.constraint_elaborator.proofs.CompletingBlocks.{ends-all}
 use Rattle.constraint_elaborator.proofs.blocks.+completes.Goals as goal
 
 pub completes_all-loop-statement-init : goal.completes_all-loop-statement-init

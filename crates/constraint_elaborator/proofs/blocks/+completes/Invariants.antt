@@ -1,7 +1,7 @@
 use Rattle.std.proofs.Common.{◌≡◌, drop}
 use Rattle.xanadu_tree.specs.BodyRules.{completes_all}
 use Rattle.xanadu_tree.specs.PlainOf.{plain_block}
-use Rattle.constraint_elaborator.proofs.BlockEnds.{ends_with}
+use Rattle.constraint_elaborator.proofs.CompletingBlocks.{ends_with}
 use Rattle.constraint_elaborator.proofs.blocks.+completes.Given as goal
 
 abbrev pub invariant-completes_all-loop-statement : goal.invariant-completes_all-loop-statement

@@ -1,5 +1,5 @@
 use Rattle.std.proofs.Common.{◌∙◌}
-use Rattle.dtal_verifier.proofs.WalkParts.{sides_below}
+use Rattle.dtal_verifier.proofs.VerdictParts.{sides_below}
 use Rattle.dtal_verifier.proofs.edges.assume_side.Goals as goal
 
 pub assume_all-requires : goal.assume_all-requires

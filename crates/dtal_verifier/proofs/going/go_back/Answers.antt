@@ -1,7 +1,7 @@
 use Rattle.operation_rules.specs.Settings.{setting_of}
 use Rattle.dtal_verifier.specs.Views.{action_of}
 use Rattle.dtal_verifier.proofs.StepsSame.{gives_back_same}
-use Rattle.dtal_verifier.proofs.WalkParts.{gives_same}
+use Rattle.dtal_verifier.proofs.VerdictParts.{gives_same}
 use Rattle.dtal_verifier.proofs.going.go_back.Goals as goal
 
 pub returns-clause-gone : goal.returns-clause-gone

@@ -3,7 +3,7 @@ use Rattle.dtal_verifier.specs.Steps.{goes_on_by}
 use Rattle.dtal_verifier.specs.Views.{IsStanding, action_of}
 use Rattle.dtal_verifier.proofs.StandingStates.{gives_so, goes_on_stands}
 use Rattle.dtal_verifier.proofs.StepsSame.{goes_on_same}
-use Rattle.dtal_verifier.proofs.WalkParts.{gives_same}
+use Rattle.dtal_verifier.proofs.VerdictParts.{gives_same}
 use Rattle.dtal_verifier.proofs.going.go_on.Goals as goal
 
 pub returns-clause-gone : goal.returns-clause-gone
