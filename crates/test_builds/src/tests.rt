@@ -1,6 +1,6 @@
 //! Runs of the whole compiler as rows of tables.
 
-mod long;
+mod goals;
 mod refusals;
 mod shapes;
 
@@ -92,6 +92,16 @@ fn is(run: &Outcome, status: u8, said: &[u8], text: Option<&[u8]>) -> bool {
         _ => false,
     };
     run.status == status && run.said.as_slice() == said && same
+}
+
+/// Whether the source of a run that built nothing has a core: it is refused for nothing in front of its elaboration.
+fn has_core(run: &Outcome) -> bool {
+    let line = run.said.as_slice();
+    match run.status {
+        10 | 20 => true,
+        5 => !line.starts_with(b"limit: length") && !line.starts_with(b"limit: nesting"),
+        _ => false,
+    }
 }
 
 #[test]
@@ -196,6 +206,9 @@ const NO_COMMANDS: &[&[&str]] = &[
     &["build", "-in", "out"],
     &["build", "in", "--"],
     &["--heap", "in", "out"],
+    &["goals"],
+    &["goals", "-in"],
+    &["goals", "in", "out"],
 ];
 
 #[test]

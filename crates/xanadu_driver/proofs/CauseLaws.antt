@@ -1,23 +1,24 @@
 -- From what a command did to the cause of its answer, and from the cause to the report.
-use Rattle.std.proofs.Common.{◌≡◌, ◌≢◌, ℕ, Bool, true, false, List, length, Option, Some, None, option_map, Result, Ok, Err, refl, sym, ap, ◌∙◌, subst, ◌⊎◌, inl, inr, ⊎_elim}
+use Rattle.std.proofs.Common.{◌≡◌, ◌≢◌, ℕ, Bool, true, false, List, Option, Some, None, option_map, Result, Ok, Err, refl, sym, ap, ◌∙◌, subst, ◌⊎◌, inl, inr, ⊎_elim}
 use Rattle.std.specs.Str.{bytes_eq}
 use Rattle.std.proofs.lemmas.Slice.Eq.{bytes_eq-Decides}
 use Rattle.xan_io.specs.Faults.{Rose}
 use Rattle.dtal_code.specs.declared.straight.Straight.{Straight}
+use Rattle.typed_core.specs.declared.goal.GoalAt.{GoalAt}
 use Rattle.xanadu_driver.specs.declared.answer.Answer.{Answer}
 use Rattle.xanadu_driver.specs.declared.answer.Answer.TheVariants.{Built, NoCommand, ReadFailed, WriteFailed, Memory, Refused}
 use Rattle.xanadu_driver.specs.declared.refusal.Refusal.{Refusal}
 use Rattle.xanadu_driver.specs.declared.refusal.SourceError.{SourceError}
 use Rattle.xanadu_driver.specs.declared.refusal.SourceError.TheVariants as error
 use Rattle.xanadu_driver.specs.Answers.{Keeps}
-use Rattle.xanadu_driver.specs.Causes.{Unchanged, BuildCauses, Causes, SaidAll, Went, NothingFailed, IsReported}
+use Rattle.xanadu_driver.specs.Causes.{Unchanged, BuildCauses, GoalsCauses, Causes, SaidAll, Went, NothingFailed, IsReported}
 use Rattle.xanadu_driver.specs.Correct.{Wrote, Cut}
-use Rattle.xanadu_driver.specs.Fate.{fate}
+use Rattle.xanadu_driver.specs.Fate.{fate, goals_of}
 use Rattle.xanadu_driver.specs.Outside.{Held, Outside}
-use Rattle.xanadu_driver.specs.Report.{Report, report_of, answer_to, report}
+use Rattle.xanadu_driver.specs.Report.{Report, Found, Answered, Listed, report_of, built, listed, report}
 use Rattle.xanadu_driver.specs.Source.{IsRefused}
-use Rattle.xanadu_driver.specs.Words.{Meant, Build}
-use Rattle.xanadu_driver.proofs.FateLaws.{fate_is}
+use Rattle.xanadu_driver.specs.Words.{Meant, Build, Goals}
+use Rattle.xanadu_driver.proofs.FateLaws.{fate_is, goals_are, goals_refused}
 
 -- ---- the cause
 
@@ -53,95 +54,138 @@ build_causes source target before after (Built n) command others read write refu
 
 -- ---- the report
 
-abbrev IsOf : Answer → Type 0
-IsOf ReadFailed = ⊥
-IsOf WriteFailed = ⊥
-IsOf Memory = ⊥
+abbrev IsOf : Found → Type 0
+IsOf (Answered ReadFailed) = ⊥
+IsOf (Answered WriteFailed) = ⊥
+IsOf (Answered Memory) = ⊥
 IsOf _ = Unit {0}
 
 same_report : (a b : Report) → ◌≡◌ {A = Option Report} (Some a) (Some b) → a ≡ b
 same_report a b e = cc
 
--- a told source of this fate is reported so
-told_report : (source target told : List ℕ) (content : List ℕ → Option (List ℕ)) (fated : Result Straight SourceError) → content source ≡ Some told
-    → fate told ≡ fated → report (Some (Build source target)) content ≡ Some (report_of (answer_to fated))
-told_report source target told content fated here is =
-    ap (option_map (λ (bytes : List ℕ). report_of (answer_to (fate bytes)))) here ∙ ap (λ (f : Result Straight SourceError). Some (report_of (answer_to f))) is
-
 -- where there is a report, the content is told
-told_of : (content : Option (List ℕ)) (r : Report) → option_map (λ (bytes : List ℕ). report_of (answer_to (fate bytes))) content ≡ Some r
-    → (told : List ℕ) × (content ≡ Some told)
-told_of None r e = absurd cc
-told_of (Some told) r e = (told, refl)
+told_of : (of : List ℕ → Report) (content : Option (List ℕ)) (r : Report) → option_map of content ≡ Some r → (told : List ℕ) × (content ≡ Some told)
+told_of of None r e = absurd cc
+told_of of (Some told) r e = (told, refl)
 
--- an answer that depends on the words and the source alone is the one of the report
-caused_report : (meant : Option Meant) (before after : Held) (answer : Answer) (r : Report) → Causes meant before after answer → IsOf answer
-    → report meant before.content ≡ Some r → report_of answer ≡ r
-caused_report None before after NoCommand r cause of is = same_report _ r is
-caused_report None before after _ r cause of is = absurd cause
-caused_report (Some (Build source target)) before after NoCommand r cause of is = absurd cause
-caused_report (Some (Build source target)) before after (Refused refusal) r cause of is =
-    let t = told_of (before.content source) r is in
-    let fated : fate t.0 ≡ Err (error.Refused refusal) = fate_is t.0 (Err (error.Refused refusal)) (cause.refused t.0 t.1) in
-    same_report (report_of (Refused refusal)) r (sym (told_report source target t.0 before.content (Err (error.Refused refusal)) t.1 fated) ∙ is)
-caused_report (Some (Build source target)) before after (Built n) r cause of is =
-    let t = told_of (before.content source) r is in
-    let wrote = cause.wrote t.0 t.1 in
-    let program = wrote.translates.program in
-    let fated : fate t.0 ≡ Ok program = fate_is t.0 (Ok program) wrote.translates.code in
-    ap (λ (m : ℕ). report_of (Built m)) wrote.translates.counted
-    ∙ same_report (report_of (Built (length program.code))) r (sym (told_report source target t.0 before.content (Ok program) t.1 fated) ∙ is)
-caused_report (Some (Build source target)) before after _ r cause of is = absurd of
+abbrev of_build : List ℕ → Report
+of_build bytes = report_of (built (fate bytes))
 
-abbrev all_reported : (meant : Option Meant) (before after : Outside) (answer : Answer) (status : ℕ) (r : Report) → Causes meant before.files after.files answer
-    → IsOf answer → report meant before.files.content ≡ Some r → SaidAll (report_of answer) status before.faults after.faults before.written after.written
+abbrev of_goals : List ℕ → Report
+of_goals bytes = report_of (listed (goals_of bytes))
+
+-- what is found of a told source is what is reported of it
+found_report : (of : List ℕ → Report) (content : Option (List ℕ)) (found : Found) (r : Report) → option_map of content ≡ Some r
+    → ((told : List ℕ) → content ≡ Some told → of told ≡ report_of found) → report_of found ≡ r
+found_report of content found r is finds =
+    let t = told_of of content r is in
+    sym (finds t.0 t.1) ∙ same_report (of t.0) r (sym (ap (option_map of) t.1) ∙ is)
+
+-- what depends on the words and the source alone is that of the report
+build_report : (source target : List ℕ) (before after : Held) (answer : Answer) (r : Report) → BuildCauses source target before after answer
+    → IsOf (Answered answer) → option_map of_build (before.content source) ≡ Some r → report_of (Answered answer) ≡ r
+build_report source target before after NoCommand r cause of is = absurd cause
+build_report source target before after (Refused refusal) r cause of is =
+    found_report of_build (before.content source) (Answered (Refused refusal)) r is
+    (λ told here. ap (λ (f : Result Straight SourceError). report_of (built f)) (fate_is told (Err (error.Refused refusal)) (cause.refused told here)))
+build_report source target before after (Built n) r cause of is =
+    found_report of_build (before.content source) (Answered (Built n)) r is
+    (λ told here.
+    let wrote = cause.wrote told here in
+    ap (λ (f : Result Straight SourceError). report_of (built f)) (fate_is told (Ok wrote.translates.program) wrote.translates.code)
+    ∙ ap (λ (m : ℕ). report_of (Answered (Built m))) (sym wrote.translates.counted))
+build_report source target before after ReadFailed r cause of is = absurd of
+build_report source target before after WriteFailed r cause of is = absurd of
+build_report source target before after Memory r cause of is = absurd of
+
+goals_report : (source : List ℕ) (before after : Held) (found : Found) (r : Report) → GoalsCauses source before after found → IsOf found
+    → option_map of_goals (before.content source) ≡ Some r → report_of found ≡ r
+goals_report source before after (Answered NoCommand) r cause of is = absurd cause
+goals_report source before after (Answered (Refused refusal)) r cause of is =
+    found_report of_goals (before.content source) (Answered (Refused refusal)) r is
+    (λ told here. ap (λ (f : Result (List GoalAt) SourceError). report_of (listed f)) (goals_refused told refusal (cause.0.refused told here) cause.1))
+goals_report source before after (Answered (Built n)) r cause of is = absurd cause
+goals_report source before after (Answered ReadFailed) r cause of is = absurd of
+goals_report source before after (Answered WriteFailed) r cause of is = absurd of
+goals_report source before after (Answered Memory) r cause of is = absurd of
+goals_report source before after (Listed goals) r cause of is =
+    found_report of_goals (before.content source) (Listed goals) r is
+    (λ told here. ap (λ (f : Result (List GoalAt) SourceError). report_of (listed f)) (goals_are told goals (cause.has told here)))
+
+caused_report : (meant : Option Meant) (before after : Held) (found : Found) (r : Report) → Causes meant before after found → IsOf found
+    → report meant before.content ≡ Some r → report_of found ≡ r
+caused_report None before after (Answered NoCommand) r cause of is = same_report _ r is
+caused_report None before after (Answered ReadFailed) r cause of is = absurd cause
+caused_report None before after (Answered WriteFailed) r cause of is = absurd cause
+caused_report None before after (Answered Memory) r cause of is = absurd cause
+caused_report None before after (Answered (Refused refusal)) r cause of is = absurd cause
+caused_report None before after (Answered (Built n)) r cause of is = absurd cause
+caused_report None before after (Listed goals) r cause of is = absurd cause
+caused_report (Some (Build source target)) before after (Answered answer) r cause of is = build_report source target before after answer r cause of is
+caused_report (Some (Build source target)) before after (Listed goals) r cause of is = absurd cause
+caused_report (Some (Goals source)) before after found r cause of is = goals_report source before after found r cause of is
+
+abbrev all_reported : (meant : Option Meant) (before after : Outside) (found : Found) (status : ℕ) (r : Report) → Causes meant before.files after.files found
+    → IsOf found → report meant before.files.content ≡ Some r → SaidAll (report_of found) status before.faults after.faults before.written after.written
     → IsReported r status before.written after.written
-all_reported meant before after answer status r cause of is all =
-    subst (λ (x : Report). IsReported x status before.written after.written) (caused_report meant before.files after.files answer r cause of is)
+all_reported meant before after found status r cause of is all =
+    subst (λ (x : Report). IsReported x status before.written after.written) (caused_report meant before.files after.files found r cause of is)
     (record { status_is = all.status_is; said = all.said })
 
 -- but at the statuses 3, 4 and 6
-reported_by : (meant : Option Meant) (before after : Outside) (answer : Answer) (status : ℕ) (r : Report) → Causes meant before.files after.files answer
-    → report meant before.files.content ≡ Some r → SaidAll (report_of answer) status before.faults after.faults before.written after.written
+reported_by : (meant : Option Meant) (before after : Outside) (found : Found) (status : ℕ) (r : Report) → Causes meant before.files after.files found
+    → report meant before.files.content ≡ Some r → SaidAll (report_of found) status before.faults after.faults before.written after.written
     → status ≢ 3 → status ≢ 4 → status ≢ 6 → IsReported r status before.written after.written
-reported_by meant before after ReadFailed status r cause is all three four six = absurd (three all.status_is)
-reported_by meant before after WriteFailed status r cause is all three four six = absurd (four all.status_is)
-reported_by meant before after Memory status r cause is all three four six = absurd (six all.status_is)
-reported_by meant before after NoCommand status r cause is all three four six = all_reported meant before after NoCommand status r cause tt is all
-reported_by meant before after (Refused refusal) status r cause is all three four six = all_reported meant before after (Refused refusal) status r cause tt is all
-reported_by meant before after (Built n) status r cause is all three four six = all_reported meant before after (Built n) status r cause tt is all
+reported_by meant before after (Answered ReadFailed) status r cause is all three four six = absurd (three all.status_is)
+reported_by meant before after (Answered WriteFailed) status r cause is all three four six = absurd (four all.status_is)
+reported_by meant before after (Answered Memory) status r cause is all three four six = absurd (six all.status_is)
+reported_by meant before after (Answered NoCommand) status r cause is all three four six =
+    all_reported meant before after (Answered NoCommand) status r cause tt is all
+reported_by meant before after (Answered (Refused refusal)) status r cause is all three four six =
+    all_reported meant before after (Answered (Refused refusal)) status r cause tt is all
+reported_by meant before after (Answered (Built n)) status r cause is all three four six =
+    all_reported meant before after (Answered (Built n)) status r cause tt is all
+reported_by meant before after (Listed goals) status r cause is all three four six = all_reported meant before after (Listed goals) status r cause tt is all
 
 pub went_reported : (meant : Option Meant) (before after : Outside) (status : ℕ) → Went meant before after status → (r : Report)
     → report meant before.files.content ≡ Some r → status ≢ 3 → status ≢ 4 → status ≢ 6 → IsReported r status before.written after.written
 went_reported meant before after status went r is three four six =
-    ⊎_elim (λ all. reported_by meant before after went.answer status r went.cause is all three four six) (λ part. absurd (four part.status_is)) went.said
+    ⊎_elim (λ all. reported_by meant before after went.found status r went.cause is all three four six) (λ part. absurd (four part.status_is)) went.said
 
 -- where nothing failed
-completed_by : (meant : Option Meant) (before after : Outside) (answer : Answer) (status : ℕ) (r : Report) → Causes meant before.files after.files answer
-    → report meant before.files.content ≡ Some r → SaidAll (report_of answer) status before.faults after.faults before.written after.written
+completed_by : (meant : Option Meant) (before after : Outside) (found : Found) (status : ℕ) (r : Report) → Causes meant before.files after.files found
+    → report meant before.files.content ≡ Some r → SaidAll (report_of found) status before.faults after.faults before.written after.written
     → NothingFailed meant before after → (status ≡ r.status) ⊎ (status ≡ 6)
-completed_by None before after ReadFailed status r cause is all nothing = absurd cause
-completed_by (Some (Build source target)) before after ReadFailed status r cause is all nothing = absurd (nothing.reads source refl cause.rose)
-completed_by None before after WriteFailed status r cause is all nothing = absurd cause
-completed_by (Some (Build source target)) before after WriteFailed status r cause is all nothing = absurd (nothing.writes target refl cause.rose)
-completed_by meant before after Memory status r cause is all nothing = inr all.status_is
-completed_by meant before after NoCommand status r cause is all nothing =
-    inl ((all_reported meant before after NoCommand status r cause tt is all).status_is)
-completed_by meant before after (Refused refusal) status r cause is all nothing =
-    inl ((all_reported meant before after (Refused refusal) status r cause tt is all).status_is)
-completed_by meant before after (Built n) status r cause is all nothing =
-    inl ((all_reported meant before after (Built n) status r cause tt is all).status_is)
+completed_by None before after (Answered ReadFailed) status r cause is all nothing = absurd cause
+completed_by (Some (Build source target)) before after (Answered ReadFailed) status r cause is all nothing = absurd (nothing.reads source refl cause.rose)
+completed_by (Some (Goals source)) before after (Answered ReadFailed) status r cause is all nothing = absurd (nothing.reads source refl cause.rose)
+completed_by None before after (Answered WriteFailed) status r cause is all nothing = absurd cause
+completed_by (Some (Build source target)) before after (Answered WriteFailed) status r cause is all nothing = absurd (nothing.writes target refl cause.rose)
+completed_by (Some (Goals source)) before after (Answered WriteFailed) status r cause is all nothing = absurd cause
+completed_by meant before after (Answered Memory) status r cause is all nothing = inr all.status_is
+completed_by meant before after (Answered NoCommand) status r cause is all nothing =
+    inl ((all_reported meant before after (Answered NoCommand) status r cause tt is all).status_is)
+completed_by meant before after (Answered (Refused refusal)) status r cause is all nothing =
+    inl ((all_reported meant before after (Answered (Refused refusal)) status r cause tt is all).status_is)
+completed_by meant before after (Answered (Built n)) status r cause is all nothing =
+    inl ((all_reported meant before after (Answered (Built n)) status r cause tt is all).status_is)
+completed_by meant before after (Listed goals) status r cause is all nothing =
+    inl ((all_reported meant before after (Listed goals) status r cause tt is all).status_is)
 
 pub went_complete : (meant : Option Meant) (before after : Outside) (status : ℕ) → Went meant before after status → (r : Report)
     → report meant before.files.content ≡ Some r → NothingFailed meant before after → (status ≡ r.status) ⊎ (status ≡ 6)
 went_complete meant before after status went r is nothing =
-    ⊎_elim (λ all. completed_by meant before after went.answer status r went.cause is all nothing) (λ part. absurd (nothing.puts part.rose)) went.said
+    ⊎_elim (λ all. completed_by meant before after went.found status r went.cause is all nothing) (λ part. absurd (nothing.puts part.rose)) went.said
 
 -- ---- commands
 
-pub caused_none : (meant : Option Meant) → meant ≡ None → (before : Held) → Causes meant before before NoCommand
-caused_none meant is before = subst (λ m. Causes m before before NoCommand) (sym is) (λ name. refl)
+pub caused_none : (meant : Option Meant) → meant ≡ None → (before : Held) → Causes meant before before (Answered NoCommand)
+caused_none meant is before = subst (λ m. Causes m before before (Answered NoCommand)) (sym is) (λ name. refl)
 
 pub caused_build : (meant : Option Meant) (source target : List ℕ) → meant ≡ Some (Build source target) → (before after : Held) (answer : Answer)
-    → BuildCauses source target before after answer → Causes meant before after answer
-caused_build meant source target is before after answer cause = subst (λ m. Causes m before after answer) (sym is) cause
+    → BuildCauses source target before after answer → Causes meant before after (Answered answer)
+caused_build meant source target is before after answer cause = subst (λ m. Causes m before after (Answered answer)) (sym is) cause
+
+pub caused_goals : (meant : Option Meant) (source : List ℕ) → meant ≡ Some (Goals source) → (before after : Held) (found : Found)
+    → GoalsCauses source before after found → Causes meant before after found
+caused_goals meant source is before after found cause = subst (λ m. Causes m before after found) (sym is) cause

@@ -1,38 +1,28 @@
--- A source has a fate, and one alone.
-use Rattle.std.proofs.Common.{◌≡◌, ℕ, zero, suc, ◌+◌, ◌≤◌, ◌<◌, Bool, true, false, cond, List, [], ◌∷◌, length, Result, Ok, Err, refl, sym, ap, ◌∙◌, subst, arith}
-use Rattle.std.specs.Prelude.{nat_le}
-use Rattle.std.proofs.lemmas.Bool.Decides.{nat_tests}
+-- A source has a fate, and one alone; and its goals are those that are computed.
+use Rattle.std.proofs.Common.{◌≡◌, ℕ, Bool, true, false, cond, List, length, Option, Some, None, Result, Ok, Err, refl, sym, ap, ◌∙◌, subst}
 use Rattle.std.proofs.lemmas.List.FromFn.{length-map-range_with_len}
 use Rattle.xan_seq.specs.Answers.{◌>>=◌}
 use Rattle.dtal_code.specs.declared.straight.Straight.{Straight}
-use Rattle.xanadu_lexer.specs.declared.error.LexError.{LexError}
-use Rattle.xanadu_lexer.specs.declared.error.LexError.TheVariants as lex_error
-use Rattle.xanadu_lexer.specs.declared.piece.Piece.{Piece}
-use Rattle.xanadu_lexer.specs.declared.piece.Piece.TheVariants as piece
-use Rattle.xanadu_lexer.specs.declared.token.Token.{Token}
-use Rattle.xanadu_lexer.specs.Lexing.{lexed, lexed_from, with_piece, front}
-use Rattle.xanadu_lexer.specs.Rules.{with_token}
-use Rattle.xanadu_parser.specs.declared.error.ParseError.{ParseError}
-use Rattle.xanadu_parser.specs.declared.error.ParseError.TheVariants as parse_error
-use Rattle.xanadu_parser.specs.Faults.{IsAnswer}
-use Rattle.xanadu_parser.specs.Parsing.{parsed}
+use Rattle.goal_table.specs.Unproved.{Failure, first_unproved}
+use Rattle.typed_core.specs.Goals.{Elaboration, elaborated}
+use Rattle.typed_core.specs.Limits.{Walk, Past, Misfit, Stray}
+use Rattle.typed_core.specs.declared.goal.GoalAt.{GoalAt}
+use Rattle.typed_core.proofs.FitPrograms.{shaped_fits}
+use Rattle.typed_core.proofs.NamedPrograms.{never_strays}
 use Rattle.xanadu_tree.specs.Plain as plain
-use Rattle.xanadu_tree.specs.PlainTree as tree
+use Rattle.xanadu_tree.specs.Shaped.{Shaped}
 use Rattle.xanadu_tree.specs.Small.{IsSmall, int_of, number_program}
-use Rattle.type_shapes.specs.Faults.{Fault, Check}
-use Rattle.scope_shapes.specs.Shape.{shape}
+use Rattle.scope_shapes.proofs.ShapedPrograms.{shape_is_shaped}
 use Rattle.xanadu_driver.specs.declared.refusal.Refusal.{Refusal}
 use Rattle.xanadu_driver.specs.declared.refusal.Refusal.TheVariants as refusal
 use Rattle.xanadu_driver.specs.declared.refusal.SourceError.{SourceError}
 use Rattle.xanadu_driver.specs.declared.refusal.SourceError.TheVariants as error
-use Rattle.xanadu_driver.specs.declared.refusal.TheConstants.{SOURCE_MOST}
-use Rattle.xanadu_driver.specs.Fate.{fate, short, or_stop, of_fault, other_form, lowered_functions, lowered}
+use Rattle.xanadu_driver.specs.Fate.{Checked, checked_with, core_of, checked_of, goals_of, fate, or_stop, of_walk, none_fails, other_form, lowered_functions, lowered}
 use Rattle.xanadu_driver.specs.Forms.{is_small}
 use Rattle.xanadu_driver.specs.Lowering.{straight_of}
-use Rattle.xanadu_driver.specs.Stops.{of_lexer, of_parser}
-use Rattle.xanadu_driver.specs.Source.{HasTokens, HasTree, IsCore, HasCode, HasFate}
-use Rattle.xanadu_driver.proofs.Fates.{one_core, one_refusal, not_refused}
-use Rattle.xanadu_driver.proofs.ParsedAnswers.{answered, never_memory}
+use Rattle.xanadu_driver.specs.Source.{IsCore, IsElaborated, IsProved, HasGoals, HasFate, IsRefused, IsEarly}
+use Rattle.xanadu_driver.proofs.CoreFates.{HasCoreFate, has_core_fate, core_is}
+use Rattle.xanadu_driver.proofs.Fates.{HasNoCore, tree_is_written}
 use Rattle.xanadu_driver.proofs.SmallCores.{passed_is_small, small_passes}
 
 -- ---- code
@@ -51,108 +41,134 @@ passed_lowers core false e = absurd cc
 lowered_small : (core : plain.Program) (small : IsSmall core) → lowered core ≡ Ok (straight_of small.count small.value)
 lowered_small core small = passed_lowers core (is_small core) (small_passes core small) ∙ lowered_sum core small
 
-same_program : (a b : Straight) → ◌≡◌ {A = Result Straight SourceError} (Ok a) (Ok b) → a ≡ b
-same_program a b e = cc
+never : (passes : Bool) → passes ≡ false → passes ≡ true → ⊥
+never true e f = cc
+never false e f = cc
 
-one_code : (bytes : List ℕ) (a b : Straight) → HasCode bytes a → HasCode bytes b → a ≡ b
-one_code bytes a b x y =
-    same_program a b
-    (ap (λ (p : Straight). Ok p) x.lowered ∙ sym (lowered_small x.core x.small) ∙ ap lowered (one_core bytes x.core y.core x.has y.has) ∙ lowered_small y.core y.small
-    ∙ ap (λ (p : Straight). Ok p) (sym y.lowered))
+-- a core that is not small has none
+lowered_other : (core : plain.Program) → (IsSmall core → ⊥) → lowered core ≡ other_form
+lowered_other core other = by_test (is_small core) refl
+  where
+    by_test : (passes : Bool) → is_small core ≡ passes → cond passes (lowered_functions core.funs) other_form ≡ other_form
+    by_test true e = absurd (other (passed_is_small core e))
+    by_test false e = refl
 
--- ---- one fate
+-- ---- the goals
+
+abbrev made_of : plain.Program → Walk Elaboration → Result Checked SourceError
+made_of core walked = or_stop of_walk walked >>= λ made. Ok (checked_with core made)
+
+abbrev checked_by : Result plain.Program SourceError → Result Checked SourceError
+checked_by core = core >>= λ core. made_of core (elaborated core)
+
+checked_same : (bytes : List ℕ) → checked_of bytes ≡ checked_by (core_of bytes)
+unfolding checked_of
+checked_same bytes = refl
+
+checked_core : (bytes : List ℕ) (core : plain.Program) → IsCore bytes core → checked_of bytes ≡ made_of core (elaborated core)
+checked_core bytes core has = checked_same bytes ∙ ap checked_by (core_is bytes (Ok core) has)
+
+checked_is : (bytes : List ℕ) (core : plain.Program) (made : Elaboration) → IsElaborated bytes core made → checked_of bytes ≡ Ok (checked_with core made)
+checked_is bytes core made has = checked_core bytes core has.has ∙ ap (made_of core) has.elaborated
+
+checked_past : (bytes : List ℕ) (r : Refusal) → IsRefused bytes r → IsEarly r → checked_of bytes ≡ Err (error.Refused r)
+checked_past bytes refusal.Length x early = checked_same bytes ∙ ap checked_by (core_is bytes (Err (error.Refused refusal.Length)) x)
+checked_past bytes (refusal.Bytes at) x early = checked_same bytes ∙ ap checked_by (core_is bytes (Err (error.Refused (refusal.Bytes at))) x)
+checked_past bytes refusal.Nesting x early = checked_same bytes ∙ ap checked_by (core_is bytes (Err (error.Refused refusal.Nesting)) x)
+checked_past bytes (refusal.Parse at) x early = checked_same bytes ∙ ap checked_by (core_is bytes (Err (error.Refused (refusal.Parse at))) x)
+checked_past bytes (refusal.Shape kind at) x early = checked_same bytes ∙ ap checked_by (core_is bytes (Err (error.Refused (refusal.Shape kind at))) x)
+checked_past bytes (refusal.Past kind) x early = checked_core bytes x.core x.has ∙ ap (made_of x.core) x.past
+checked_past bytes (refusal.Goal number at row answer) x early = absurd early
+checked_past bytes refusal.NotBuilt x early = absurd early
+
+abbrev listed_by : Result Checked SourceError → Result (List GoalAt) SourceError
+listed_by checked = checked >>= λ checked. Ok checked.made.goals
+
+pub goals_are : (bytes : List ℕ) (goals : List GoalAt) → HasGoals bytes goals → goals_of bytes ≡ Ok goals
+goals_are bytes goals has = ap listed_by (checked_is bytes has.core has.made has.has) ∙ ap (λ (goals : List GoalAt). Ok goals) (sym has.are)
+
+pub goals_refused : (bytes : List ℕ) (r : Refusal) → IsRefused bytes r → IsEarly r → goals_of bytes ≡ Err (error.Refused r)
+goals_refused bytes r x early = ap listed_by (checked_past bytes r x early)
+
+-- ---- a fate is no other
+
+abbrev behind_goals : plain.Program → Option Failure → Result Straight SourceError
+behind_goals core found = none_fails found >>= λ proved. lowered core
+
+abbrev fate_by : Result Checked SourceError → Result Straight SourceError
+fate_by checked = checked >>= λ checked. behind_goals checked.core (first_unproved checked.made.goals)
+
+fate_same : (bytes : List ℕ) → fate bytes ≡ fate_by (checked_of bytes)
+unfolding fate
+fate_same bytes = refl
+
+fate_behind : (bytes : List ℕ) (core : plain.Program) (made : Elaboration) (found : Option Failure) → IsElaborated bytes core made
+    → first_unproved made.goals ≡ found → fate bytes ≡ behind_goals core found
+fate_behind bytes core made found has is = fate_same bytes ∙ ap fate_by (checked_is bytes core made has) ∙ ap (behind_goals core) is
+
+fate_early : (bytes : List ℕ) (r : Refusal) → IsRefused bytes r → IsEarly r → fate bytes ≡ Err (error.Refused r)
+fate_early bytes r x early = fate_same bytes ∙ ap fate_by (checked_past bytes r x early)
+
+fate_refused : (bytes : List ℕ) (r : Refusal) → IsRefused bytes r → fate bytes ≡ Err (error.Refused r)
+fate_refused bytes (refusal.Goal number at row answer) x = fate_behind bytes x.core x.made _ x.has x.first
+fate_refused bytes refusal.NotBuilt x = fate_behind bytes x.core x.has.made None x.has.has x.has.proved ∙ lowered_other x.core x.other
+fate_refused bytes refusal.Length x = fate_early bytes refusal.Length x tt
+fate_refused bytes (refusal.Bytes at) x = fate_early bytes (refusal.Bytes at) x tt
+fate_refused bytes refusal.Nesting x = fate_early bytes refusal.Nesting x tt
+fate_refused bytes (refusal.Parse at) x = fate_early bytes (refusal.Parse at) x tt
+fate_refused bytes (refusal.Shape kind at) x = fate_early bytes (refusal.Shape kind at) x tt
+fate_refused bytes (refusal.Past kind) x = fate_early bytes (refusal.Past kind) x tt
+
+pub fate_is : (bytes : List ℕ) (other : Result Straight SourceError) → HasFate bytes other → fate bytes ≡ other
+fate_is bytes (Ok program) x =
+    fate_behind bytes x.core x.has.made None x.has.has x.has.proved ∙ lowered_small x.core x.small ∙ ap (λ (p : Straight). Ok p) (sym x.lowered)
+fate_is bytes (Err (error.Refused r)) x = fate_refused bytes r x
+fate_is bytes (Err error.Memory) x = absurd x
 
 pub one_fate : (bytes : List ℕ) (a b : Result Straight SourceError) → HasFate bytes a → HasFate bytes b → a ≡ b
-one_fate bytes (Ok a) (Ok b) x y = ap (λ (p : Straight). Ok p) (one_code bytes a b x y)
-one_fate bytes (Ok a) (Err (error.Refused r)) x y = absurd (not_refused bytes r x.core y x.has x.small)
-one_fate bytes (Err (error.Refused r)) (Ok b) x y = absurd (not_refused bytes r y.core x y.has y.small)
-one_fate bytes (Err (error.Refused r)) (Err (error.Refused s)) x y = ap (λ (t : Refusal). Err (error.Refused t)) (one_refusal bytes r s x y)
-one_fate bytes (Err error.Memory) b x y = absurd x
-one_fate bytes a (Err error.Memory) x y = absurd y
+one_fate bytes a b x y = sym (fate_is bytes a x) ∙ fate_is bytes b y
 
--- ---- tokens
-
-abbrev IsTold : Result (List Token) LexError → Type 0
-IsTold (Ok tokens) = Unit {0}
-IsTold (Err (lex_error.Fault at kind)) = Unit {0}
-IsTold (Err lex_error.Memory) = ⊥
-
-with_token-told : (token : Token) (more : Result (List Token) LexError) → IsTold more → IsTold (with_token token more)
-with_token-told token (Ok tokens) told = tt
-with_token-told token (Err (lex_error.Fault at kind)) told = tt
-with_token-told token (Err lex_error.Memory) told = absurd told
-
-with_piece-told : (p : Piece) (at : ℕ) (onward : ℕ → Result (List Token) LexError) → ((more : ℕ) → IsTold (onward more)) → IsTold (with_piece p at onward)
-with_piece-told (piece.Gap more) at onward told = told more
-with_piece-told (piece.Whole kind more) at onward told = with_token-told (record { at = at; kind = kind }) (onward more) (told more)
-with_piece-told (piece.Bad kind) at onward told = tt
-
-lexed_from-told : (passed at : ℕ) (bytes : List ℕ) → IsTold (lexed_from passed at bytes)
-unfolding lexed_from
-lexed_from-told passed at [] = tt
-lexed_from-told (suc passed) at (byte ∷ rest) = lexed_from-told passed (at + 1) rest
-lexed_from-told zero at (first ∷ rest) =
-    with_piece-told (front first rest) at (λ more. lexed_from more (at + 1) rest) (λ more. lexed_from-told more (at + 1) rest)
-
-lexed-told : (bytes : List ℕ) → IsTold (lexed bytes)
-unfolding lexed
-lexed-told bytes = lexed_from-told 0 0 bytes
-
--- ---- a fate, pass by pass
+-- ---- every source has a fate
 
 module _ (bytes : List ℕ) where
-  small_fate : (core : plain.Program) → IsCore bytes core → (passes : Bool) → is_small core ≡ passes
+  core_is_shaped : (core : plain.Program) → IsCore bytes core → Shaped core
+  core_is_shaped core has = shape_is_shaped has.written (length bytes) core (tree_is_written bytes has.written has.has) has.shaped
+
+  form_fate : (core : plain.Program) → IsProved bytes core → (passes : Bool) → is_small core ≡ passes
       → HasFate bytes (cond passes (lowered_functions core.funs) other_form)
-  small_fate core has true e =
+  form_fate core has true e =
       let small = passed_is_small core e in
       subst (HasFate bytes) (sym (lowered_sum core small)) (record { core = core; has = has; small = small; lowered = refl })
-  small_fate core has false e = record { core = core; has = has; other = λ small. never (is_small core) e (small_passes core small) }
-    where
-      never : (passes : Bool) → passes ≡ false → passes ≡ true → ⊥
-      never true e f = cc
-      never false e f = cc
+  form_fate core has false e = record { core = core; has = has; other = λ small. never (is_small core) e (small_passes core small) }
 
-  core_fate : (written : tree.Tree) → HasTree bytes written → (shaped : Check plain.Program) → shape written (length bytes) ≡ shaped
-      → HasFate bytes (or_stop of_fault shaped >>= lowered)
-  core_fate written has (Ok core) e = small_fate core (record { written = written; has = has; shaped = e }) (is_small core) refl
-  core_fate written has (Err fault) e = record { written = written; has = has; fault = e }
+  goals_fate : (core : plain.Program) (made : Elaboration) → IsElaborated bytes core made → (found : Option Failure) → first_unproved made.goals ≡ found
+      → HasFate bytes (behind_goals core found)
+  goals_fate core made has None e = form_fate core (record { made = made; has = has; proved = e }) (is_small core) refl
+  goals_fate core made has (Some failure) e = record { core = core; made = made; has = has; first = e }
 
-  tree_fate : (tokens : List Token) → HasTokens bytes tokens → (read : Result tree.Tree ParseError) → parsed tokens (length bytes) ≡ read
-      → HasFate bytes (or_stop of_parser read >>= λ written. or_stop of_fault (shape written (length bytes)) >>= lowered)
-  tree_fate tokens has read e = by_answer read e (subst (IsAnswer (λ (t : tree.Tree). t) tokens (length bytes)) e (answered tokens (length bytes)))
-    where
-      by_answer : (read : Result tree.Tree ParseError) → parsed tokens (length bytes) ≡ read → IsAnswer (λ (t : tree.Tree). t) tokens (length bytes) read
-          → HasFate bytes (or_stop of_parser read >>= λ written. or_stop of_fault (shape written (length bytes)) >>= lowered)
-      by_answer (Ok written) e is =
-          core_fate written (record { tokens = tokens; has = has; shallow = is.0; parses = is.1 }) (shape written (length bytes)) refl
-      by_answer (Err parse_error.Nesting) e is = record { tokens = tokens; has = has; deep = is }
-      by_answer (Err (parse_error.Fault at)) e is = record { tokens = tokens; has = has; shallow = is.0; fault = is.1 }
-      by_answer (Err parse_error.Memory) e is = absurd (never_memory tokens (length bytes) e)
+  walk_fate : (core : plain.Program) → IsCore bytes core → (walked : Walk Elaboration) → elaborated core ≡ walked
+      → HasFate bytes (fate_by (made_of core walked))
+  walk_fate core has (Ok made) e = goals_fate core made (record { has = has; elaborated = e }) (first_unproved made.goals) refl
+  walk_fate core has (Err (Past kind)) e = record { core = core; has = has; past = e }
+  walk_fate core has (Err Misfit) e = absurd (shaped_fits core (core_is_shaped core has) e)
+  walk_fate core has (Err Stray) e = absurd (never_strays core (core_is_shaped core has) e)
 
-  token_fate : length bytes ≤ SOURCE_MOST → (read : Result (List Token) LexError) → lexed bytes ≡ read → IsTold read
-      → HasFate bytes (or_stop of_lexer read >>= λ tokens. or_stop of_parser (parsed tokens (length bytes))
-      >>= λ written. or_stop of_fault (shape written (length bytes)) >>= lowered)
-  token_fate less (Ok tokens) e told = tree_fate tokens (record { short = less; lexed = e }) (parsed tokens (length bytes)) refl
-  token_fate less (Err (lex_error.Fault at kind)) e told = record { short = less; kind = kind; fault = e }
-  token_fate less (Err lex_error.Memory) e told = absurd told
+  refused_fate : (r : Refusal) → HasNoCore bytes r → IsRefused bytes r
+  refused_fate refusal.Length x = x
+  refused_fate (refusal.Bytes at) x = x
+  refused_fate refusal.Nesting x = x
+  refused_fate (refusal.Parse at) x = x
+  refused_fate (refusal.Shape kind at) x = x
+  refused_fate (refusal.Past kind) x = absurd x
+  refused_fate (refusal.Goal number at row answer) x = absurd x
+  refused_fate refusal.NotBuilt x = absurd x
 
-  length_fate : (few : Bool) → nat_le (length bytes) SOURCE_MOST ≡ few
-      → HasFate bytes (cond few (Ok bytes) (Err (error.Refused refusal.Length)) >>= λ source. or_stop of_lexer (lexed source)
-      >>= λ tokens. or_stop of_parser (parsed tokens (length source)) >>= λ written. or_stop of_fault (shape written (length source)) >>= lowered)
-  length_fate true e = token_fate (at_most (length bytes) e) (lexed bytes) refl (lexed-told bytes)
-    where
-      at_most : (n : ℕ) → nat_le n SOURCE_MOST ≡ true → n ≤ SOURCE_MOST
-      at_most n h = grind (arith, nat_tests)
-  length_fate false e = more (length bytes) e
-    where
-      more : (n : ℕ) → nat_le n SOURCE_MOST ≡ false → SOURCE_MOST < n
-      more n h = grind (arith, nat_tests)
+  core_fate : (core : Result plain.Program SourceError) → HasCoreFate bytes core → HasFate bytes (fate_by (checked_by core))
+  core_fate (Ok core) has = walk_fate core has (elaborated core) refl
+  core_fate (Err (error.Refused r)) has = refused_fate r has
+  core_fate (Err error.Memory) has = absurd has
 
 -- every source has the fate that is computed
 pub has_fate : (bytes : List ℕ) → HasFate bytes (fate bytes)
-unfolding fate
-has_fate bytes = length_fate bytes (nat_le (length bytes) SOURCE_MOST) refl
-
--- and its fate is no other
-pub fate_is : (bytes : List ℕ) (other : Result Straight SourceError) → HasFate bytes other → fate bytes ≡ other
-fate_is bytes other has = one_fate bytes (fate bytes) other (has_fate bytes) has
+has_fate bytes =
+    subst (HasFate bytes) (sym (fate_same bytes ∙ ap fate_by (checked_same bytes))) (core_fate bytes (core_of bytes) (has_core_fate bytes))

@@ -1,4 +1,4 @@
--- A source is refused for one thing at most, and then it has no small core; and it has at most one core.
+-- A source has at most one core, or comes to none for one thing at most.
 use Rattle.std.proofs.Common.{◌≡◌, ℕ, zero, suc, ◌-◌, ◌<◌, ◌≤◌, List, [], ◌∷◌, ◌++◌, length, take, drop, Result, Ok, Err, refl, sym, ap, ap₂, ◌∙◌, subst, arith, append_assoc}
 use Rattle.xanadu_lexer.specs.declared.error.LexError.{LexError}
 use Rattle.xanadu_lexer.specs.declared.error.LexError.TheVariants as lex_error
@@ -11,7 +11,6 @@ use Rattle.xanadu_parser.proofs.Meaning.{one_tree}
 use Rattle.xanadu_tree.specs.Nesting.{IsTooNested}
 use Rattle.xanadu_tree.specs.Plain as plain
 use Rattle.xanadu_tree.specs.PlainTree as tree
-use Rattle.xanadu_tree.specs.Small.{IsSmall}
 use Rattle.xanadu_tree.specs.Written.{IsWritten, Parses}
 use Rattle.xanadu_tree.proofs.ReadTrees.{read_is_written}
 use Rattle.type_shapes.specs.declared.error.ShapeKind.{ShapeKind}
@@ -20,7 +19,16 @@ use Rattle.scope_shapes.specs.Shape.{shape}
 use Rattle.xanadu_driver.specs.declared.refusal.Refusal.{Refusal}
 use Rattle.xanadu_driver.specs.declared.refusal.Refusal.TheVariants as refusal
 use Rattle.xanadu_driver.specs.declared.refusal.TheConstants.{SOURCE_MOST}
-use Rattle.xanadu_driver.specs.Source.{HasTokens, HasTree, IsCore, IsBytesFault, IsNestedSource, IsParseFault, IsShapeFault, IsRefused}
+use Rattle.xanadu_driver.specs.Source.{HasTokens, HasTree, IsCore, IsBytesFault, IsNestedSource, IsParseFault, IsShapeFault}
+
+-- it comes to no core for this
+abbrev pub HasNoCore : List ℕ → Refusal → Type 0
+HasNoCore bytes refusal.Length = SOURCE_MOST < length bytes
+HasNoCore bytes (refusal.Bytes at) = IsBytesFault bytes at
+HasNoCore bytes refusal.Nesting = IsNestedSource bytes
+HasNoCore bytes (refusal.Parse at) = IsParseFault bytes at
+HasNoCore bytes (refusal.Shape kind at) = IsShapeFault bytes kind at
+HasNoCore bytes _ = ⊥
 
 -- ---- trees
 
@@ -147,50 +155,59 @@ module _ (bytes : List ℕ) where
   one_shape k l a b x y =
       same_shape k l a b (sym x.fault ∙ ap (λ (t : tree.Tree). shape t (length bytes)) (one_written x.written y.written x.has y.has) ∙ y.fault)
 
-  -- a source is refused for one thing at most
-  pub one_refusal : (r s : Refusal) → IsRefused bytes r → IsRefused bytes s → r ≡ s
+  -- a source comes to no core for one thing at most
+  pub one_refusal : (r s : Refusal) → HasNoCore bytes r → HasNoCore bytes s → r ≡ s
   one_refusal refusal.Length refusal.Length x y = refl
   one_refusal refusal.Length (refusal.Bytes at') x y = absurd (too_long x (y.short))
   one_refusal refusal.Length refusal.Nesting x y = absurd (too_long x (y.has.short))
   one_refusal refusal.Length (refusal.Parse at') x y = absurd (too_long x (y.has.short))
   one_refusal refusal.Length (refusal.Shape kind' at') x y = absurd (too_long x (y.has.has.short))
-  one_refusal refusal.Length refusal.NotBuilt x y = absurd (too_long x (y.has.has.has.short))
+  one_refusal refusal.Length (refusal.Past kind') x y = absurd y
+  one_refusal refusal.Length (refusal.Goal number' at' row' answer') x y = absurd y
+  one_refusal refusal.Length refusal.NotBuilt x y = absurd y
   one_refusal (refusal.Bytes at) refusal.Length x y = absurd (too_long y (x.short))
   one_refusal (refusal.Bytes at) (refusal.Bytes at') x y = ap refusal.Bytes (same_fault at at' x.kind y.kind (sym x.fault ∙ y.fault))
   one_refusal (refusal.Bytes at) refusal.Nesting x y = absurd (no_tokens bytes at y.tokens x y.has)
   one_refusal (refusal.Bytes at) (refusal.Parse at') x y = absurd (no_tokens bytes at y.tokens x y.has)
   one_refusal (refusal.Bytes at) (refusal.Shape kind' at') x y = absurd (no_tokens bytes at y.has.tokens x y.has.has)
-  one_refusal (refusal.Bytes at) refusal.NotBuilt x y = absurd (no_tokens bytes at y.has.has.tokens x y.has.has.has)
+  one_refusal (refusal.Bytes at) (refusal.Past kind') x y = absurd y
+  one_refusal (refusal.Bytes at) (refusal.Goal number' at' row' answer') x y = absurd y
+  one_refusal (refusal.Bytes at) refusal.NotBuilt x y = absurd y
   one_refusal refusal.Nesting refusal.Length x y = absurd (too_long y (x.has.short))
   one_refusal refusal.Nesting (refusal.Bytes at') x y = absurd (no_tokens bytes at' x.tokens y x.has)
   one_refusal refusal.Nesting refusal.Nesting x y = refl
   one_refusal refusal.Nesting (refusal.Parse at') x y = absurd (not_nested x y.tokens y.has y.shallow)
   one_refusal refusal.Nesting (refusal.Shape kind' at') x y = absurd (not_nested x y.has.tokens y.has.has y.has.shallow)
-  one_refusal refusal.Nesting refusal.NotBuilt x y = absurd (not_nested x y.has.has.tokens y.has.has.has y.has.has.shallow)
+  one_refusal refusal.Nesting (refusal.Past kind') x y = absurd y
+  one_refusal refusal.Nesting (refusal.Goal number' at' row' answer') x y = absurd y
+  one_refusal refusal.Nesting refusal.NotBuilt x y = absurd y
   one_refusal (refusal.Parse at) refusal.Length x y = absurd (too_long y (x.has.short))
   one_refusal (refusal.Parse at) (refusal.Bytes at') x y = absurd (no_tokens bytes at' x.tokens y x.has)
   one_refusal (refusal.Parse at) refusal.Nesting x y = absurd (not_nested y x.tokens x.has x.shallow)
   one_refusal (refusal.Parse at) (refusal.Parse at') x y = ap refusal.Parse (one_place at at' x y)
   one_refusal (refusal.Parse at) (refusal.Shape kind' at') x y = absurd (no_written at y.written x y.has)
-  one_refusal (refusal.Parse at) refusal.NotBuilt x y = absurd (no_written at y.has.written x y.has.has)
+  one_refusal (refusal.Parse at) (refusal.Past kind') x y = absurd y
+  one_refusal (refusal.Parse at) (refusal.Goal number' at' row' answer') x y = absurd y
+  one_refusal (refusal.Parse at) refusal.NotBuilt x y = absurd y
   one_refusal (refusal.Shape kind at) refusal.Length x y = absurd (too_long y (x.has.has.short))
   one_refusal (refusal.Shape kind at) (refusal.Bytes at') x y = absurd (no_tokens bytes at' x.has.tokens y x.has.has)
   one_refusal (refusal.Shape kind at) refusal.Nesting x y = absurd (not_nested y x.has.tokens x.has.has x.has.shallow)
   one_refusal (refusal.Shape kind at) (refusal.Parse at') x y = absurd (no_written at' x.written y x.has)
   one_refusal (refusal.Shape kind at) (refusal.Shape kind' at') x y = one_shape kind kind' at at' x y
-  one_refusal (refusal.Shape kind at) refusal.NotBuilt x y = absurd (no_core kind at y.core x y.has)
-  one_refusal refusal.NotBuilt refusal.Length x y = absurd (too_long y (x.has.has.has.short))
-  one_refusal refusal.NotBuilt (refusal.Bytes at') x y = absurd (no_tokens bytes at' x.has.has.tokens y x.has.has.has)
-  one_refusal refusal.NotBuilt refusal.Nesting x y = absurd (not_nested y x.has.has.tokens x.has.has.has x.has.has.shallow)
-  one_refusal refusal.NotBuilt (refusal.Parse at') x y = absurd (no_written at' x.has.written y x.has.has)
-  one_refusal refusal.NotBuilt (refusal.Shape kind' at') x y = absurd (no_core kind' at' x.core y x.has)
-  one_refusal refusal.NotBuilt refusal.NotBuilt x y = refl
+  one_refusal (refusal.Shape kind at) (refusal.Past kind') x y = absurd y
+  one_refusal (refusal.Shape kind at) (refusal.Goal number' at' row' answer') x y = absurd y
+  one_refusal (refusal.Shape kind at) refusal.NotBuilt x y = absurd y
+  one_refusal (refusal.Past kind) s x y = absurd x
+  one_refusal (refusal.Goal number at row answer) s x y = absurd x
+  one_refusal refusal.NotBuilt s x y = absurd x
 
-  -- and then it has no small core
-  pub not_refused : (r : Refusal) (core : plain.Program) → IsRefused bytes r → IsCore bytes core → IsSmall core → ⊥
-  not_refused refusal.Length core x c small = too_long x c.has.has.short
-  not_refused (refusal.Bytes at) core x c small = no_tokens bytes at c.has.tokens x c.has.has
-  not_refused refusal.Nesting core x c small = not_nested x c.has.tokens c.has.has c.has.shallow
-  not_refused (refusal.Parse at) core x c small = no_written at c.written x c.has
-  not_refused (refusal.Shape kind at) core x c small = no_core kind at core x c
-  not_refused refusal.NotBuilt core x c small = x.other (subst IsSmall (one_core core x.core c x.has) small)
+  -- and then it has none
+  pub not_refused : (r : Refusal) (core : plain.Program) → HasNoCore bytes r → IsCore bytes core → ⊥
+  not_refused refusal.Length core x c = too_long x c.has.has.short
+  not_refused (refusal.Bytes at) core x c = no_tokens bytes at c.has.tokens x c.has.has
+  not_refused refusal.Nesting core x c = not_nested x c.has.tokens c.has.has c.has.shallow
+  not_refused (refusal.Parse at) core x c = no_written at c.written x c.has
+  not_refused (refusal.Shape kind at) core x c = no_core kind at core x c
+  not_refused (refusal.Past kind) core x c = absurd x
+  not_refused (refusal.Goal number at row answer) core x c = absurd x
+  not_refused refusal.NotBuilt core x c = absurd x

@@ -1,8 +1,13 @@
 -- A source that has a small core, and its text.
-use Rattle.std.proofs.Common.{◌≡◌, ℕ, zero, suc, ◌≤◌, ℤ, ◌+ℤ◌, ◌-ℤ◌, Bool, true, false, cond, List, length, Option, Some, None, refl, sym, ap, ◌∙◌, subst}
+use Rattle.std.proofs.Common.{◌≡◌, ℕ, zero, suc, ◌≤◌, ℤ, ◌+ℤ◌, ◌-ℤ◌, Bool, true, false, cond, List, length, Option, Some, None, Result, Ok, Err, IfOk, refl, sym, ap, ◌∙◌, subst}
 use Rattle.xan_io.specs.declared.arg.Arg.{Arg}
 use Rattle.xan_io.specs.Agreement.{Agree}
 use Rattle.std.specs.Prelude.{Vec}
+use Rattle.goal_table.specs.Answers.{AllAreProved}
+use Rattle.typed_core.specs.Proving.{ElaboratedParts, ProvedParts}
+use Rattle.xanadu_tree.specs.PlainOf.{CoreParts, plain_core}
+use Rattle.xanadu_driver.specs.declared.refusal.SourceError.{SourceError}
+use Rattle.xanadu_driver.specs.declared.translate.Text.{Text}
 use Rattle.std.specs.declared.alloc.Global.{Global}
 use Rattle.xan_io.specs.declared.files.FileRead.{FileRead}
 use Rattle.xan_io.specs.declared.files.FileRead.TheVariants.{Whole}
@@ -20,9 +25,9 @@ use Rattle.xanadu_tree.specs.declared.expr.Op.{Op}
 use Rattle.xanadu_tree.specs.declared.expr.Op.TheVariants.{Add, Sub, Mul, Div, Mod}
 use Rattle.xanadu_tree.specs.Plain as plain
 use Rattle.xanadu_tree.specs.Small.{IsSmall, IsSum, IsOperand, IsSumOp, AreSumLinks, number_program}
-use Rattle.xanadu_driver.specs.Correct.{HasEnded, RunEnds, Translates}
+use Rattle.xanadu_driver.specs.Correct.{HasEnded, RunEnds, IsTextOf, Translates}
 use Rattle.xanadu_driver.specs.Lowering.{straight_of}
-use Rattle.xanadu_driver.specs.Source.{IsCore}
+use Rattle.xanadu_driver.specs.Source.{IsElaborated, IsProved}
 use Rattle.xanadu_driver.specs.Meaning.{Computed, Number, Overflows, Undefined, and_then, known, operator, value, links_value, how_of, source_fault, source_outcome, source_run}
 use Rattle.xanadu_driver.proofs.Ranges.{straight_spelled}
 use Rattle.xanadu_driver.proofs.Simulation.{faults_same, follows, small_agrees}
@@ -119,27 +124,50 @@ straight_run-ends count sum return_at at args heap depth few is =
 
 -- ---- the whole
 
-pub translates : (source text : List ℕ) (core : plain.Program) (program : Straight) (instructions : ℕ) → IsCore source core → IsSmall core
-    → ((small : IsSmall core) → program ≡ straight_of small.count small.value)
-    → Spells text program → ((bytes : List ℕ) (p q : Straight) → Spells bytes p → Spells bytes q → p ≡ q) → instructions ≡ length program.code
+pub translates : (source text : List ℕ) (core : plain.Program) (instructions : ℕ) → IsProved source core → IsTextOf core text instructions
     → Translates source text instructions
-translates source text core program instructions has s lowers spells one counted =
-    let is = lowers s in
-    let whole = number_program s.count s.value s.return_at s.at in
+translates source text core instructions has is =
+    let s = is.small in
     let agree = small_agrees s.count s.value s.return_at s.at s.few s.sum in
+    let whole = number_program s.count s.value s.return_at s.at in
     record {
-      program = program;
-      code = record { core = core; has = has; small = s; lowered = is };
-      spelled = spells;
-      only = λ other h. one text other program h spells;
-      counted = counted;
-      agree = subst (λ c. Agree (source_run c) (straight_run program)) (sym s.is) (subst (λ q. Agree (source_run whole) (straight_run q)) (sym is) agree);
+      program = is.program;
+      code = record { core = core; has = has; small = s; lowered = is.lowered };
+      spelled = is.spelled;
+      only = is.only;
+      counted = is.counted;
+      agree = subst (λ c. Agree (source_run c) (straight_run is.program)) (sym s.is) (subst (λ q. Agree (source_run whole) (straight_run q)) (sym is.lowered) agree);
       source_ends = λ args heap depth run fuel.
           subst (λ c. RunEnds depth (source_run c args heap depth) fuel) (sym s.is) (source_run-ends s.count s.value s.return_at s.at args heap depth fuel s.sum);
       machine_ends = λ args heap depth run.
           let ends = straight_run-ends s.count s.value s.return_at s.at args heap depth s.few s.sum in
-          (ends.0, subst (λ q. RunEnds depth (straight_run q args heap depth) ends.0) (sym is) ends.1);
+          (ends.0, subst (λ q. RunEnds depth (straight_run q args heap depth) ends.0) (sym is.lowered) ends.1);
     }
+
+pub text_is : (inner outer : CoreParts) (text : List ℕ) (program : Straight) (instructions : ℕ) → inner ≡ outer → IsSmall (plain_core inner)
+    → ((small : IsSmall (plain_core inner)) → program ≡ straight_of small.count small.value)
+    → Spells text program → ((bytes : List ℕ) (p q : Straight) → Spells bytes p → Spells bytes q → p ≡ q) → instructions ≡ length program.code
+    → IsTextOf (plain_core outer) text instructions
+text_is inner outer text program instructions same small lowers spells one counted =
+    subst (λ core. IsTextOf (plain_core core) text instructions) same
+    (record {
+      program = program;
+      small = small;
+      lowered = lowers small;
+      spelled = spells;
+      only = λ other h. one text other program h spells;
+      counted = counted;
+    })
+
+-- the text of an elaborated program whose goals are all proved
+pub whole_text : (source : List ℕ) (base : ElaboratedParts) (proved : ProvedParts) (printed : Result Text SourceError)
+    → IsElaborated source (plain_core base.core) base.made → AllAreProved base proved
+    → IfOk printed (λ text. IsTextOf (plain_core proved.base.core) text.bytes.items text.instructions)
+    → IfOk printed (λ text. Translates source text.bytes.items text.instructions)
+whole_text source base proved (Ok text) has all is =
+    translates source text.bytes.items (plain_core base.core) text.instructions (record { made = base.made; has = has; proved = all.none })
+    (subst (λ (p : ProvedParts). IsTextOf (plain_core p.base.core) text.bytes.items text.instructions) all.is is)
+whole_text source base proved (Err stop) has all is = tt
 
 or_bytes : List ℕ → Option (List ℕ) → List ℕ
 or_bytes d None = d

@@ -1,7 +1,13 @@
 -- What each answer of the program says: a status, and a line on the output.
-use Rattle.std.specs.Prelude.{ℕ, List, ◌++◌, codes, decimal}
+use Rattle.std.specs.Prelude.{ℕ, suc, List, ◌++◌, codes, decimal}
 use Rattle.type_shapes.specs.declared.error.ShapeKind.{ShapeKind}
 use Rattle.type_shapes.specs.Faults.{kind_number}
+use Rattle.xan_lin.specs.Linear.{Linear}
+use Rattle.xan_lin.specs.Text.{form_text}
+use Rattle.xan_lin.specs.declared.term.LimitKind.{LimitKind}
+use Rattle.xan_lin.specs.declared.term.LimitKind.TheVariants as limit
+use Rattle.linear_solver.specs.declared.answer.Answer.{Answer as Found}
+use Rattle.linear_solver.specs.declared.answer.Answer.TheVariants as found
 use Rattle.xanadu_driver.specs.declared.answer.Answer.{Answer}
 use Rattle.xanadu_driver.specs.declared.answer.Answer.TheVariants.{Built, NoCommand, ReadFailed, WriteFailed, Memory, Refused}
 use Rattle.xanadu_driver.specs.declared.refusal.Refusal.{Refusal}
@@ -9,12 +15,20 @@ use Rattle.xanadu_driver.specs.declared.refusal.Refusal.TheVariants as refusal
 
 -- ---- statuses
 
+-- of a goal with this answer
+abbrev pub found_status : Found → ℕ
+found_status found.Proved = 0
+found_status found.Unproved = 10
+found_status (found.Limit _) = 5
+
 abbrev pub refusal_status : Refusal → ℕ
 refusal_status refusal.Length = 5
 refusal_status (refusal.Bytes _) = 7
 refusal_status refusal.Nesting = 5
 refusal_status (refusal.Parse _) = 8
 refusal_status (refusal.Shape _ _) = 9
+refusal_status (refusal.Past _) = 5
+refusal_status (refusal.Goal _ _ _ answer) = found_status answer
 refusal_status refusal.NotBuilt = 20
 
 abbrev pub status_of : Answer → ℕ
@@ -38,12 +52,50 @@ numbered_line word number = numbered word number ++ codes "\n"
 abbrev pub shape_line : ShapeKind → ℕ → List ℕ
 shape_line kind at = numbered (codes "shape ") (kind_number kind) ++ numbered_line (codes ": at ") at
 
+-- a limit, and how much it allows
+abbrev pub limit_text : LimitKind → List ℕ
+limit_text limit.Length = codes "length 1048576"
+limit_text limit.Nesting = codes "nesting 64"
+limit_text limit.Functions = codes "functions 1024"
+limit_text limit.Types = codes "types 1024"
+limit_text limit.Parameters = codes "parameters 8"
+limit_text limit.Variables = codes "variables 1024"
+limit_text limit.Rows = codes "rows 512"
+limit_text limit.Terms = codes "terms 16"
+limit_text limit.Magnitude = codes "magnitude 4611686018427387903"
+limit_text limit.Places = codes "places 240"
+limit_text limit.Cone = codes "cone 64"
+limit_text limit.System = codes "system 2000"
+
+abbrev pub limit_line : LimitKind → List ℕ
+limit_line kind = codes "limit: " ++ limit_text kind ++ codes "\n"
+
+-- what is said of a goal with this answer, to the end of the line
+abbrev pub verdict : Found → List ℕ
+verdict found.Proved = codes "proved\n"
+verdict found.Unproved = codes "not proved\n"
+verdict (found.Limit kind) = codes "limit " ++ limit_text kind ++ codes "\n"
+
+-- the number of a goal before which so many stand, and its place
+abbrev pub place_text : (number at : ℕ) → List ℕ
+place_text number at = numbered (codes "goal ") (suc number) ++ numbered (codes ": at ") at
+
+abbrev pub goal_line : (number at : ℕ) → Linear → Found → List ℕ
+goal_line number at row answer = place_text number at ++ (codes ": " ++ form_text row ++ codes " >= 0: ") ++ verdict answer
+
+-- the first goal that is not proved: the limit that its elimination met, or the goal
+abbrev pub failure_line : (number at : ℕ) → Linear → Found → List ℕ
+failure_line number at row (found.Limit kind) = limit_line kind
+failure_line number at row answer = goal_line number at row answer
+
 abbrev pub refusal_line : Refusal → List ℕ
 refusal_line refusal.Length = codes "limit: length 1048576\n"
 refusal_line (refusal.Bytes at) = numbered_line (codes "bytes: at ") at
 refusal_line refusal.Nesting = codes "limit: nesting 64\n"
 refusal_line (refusal.Parse at) = numbered_line (codes "parse: at ") at
 refusal_line (refusal.Shape kind at) = shape_line kind at
+refusal_line (refusal.Past kind) = limit_line kind
+refusal_line (refusal.Goal number at row answer) = failure_line number at row answer
 refusal_line refusal.NotBuilt = codes "not built yet\n"
 
 abbrev pub built_line : ℕ → List ℕ

@@ -1,17 +1,18 @@
--- Why an answer comes of a command, what the names hold then, and how much of it is said.
+-- Why a command comes to what it does, what the names hold then, and how much of it is said.
 use Rattle.std.specs.Prelude.{◌≡◌, ◌⊎◌, ℕ, List, Option, Some, None}
 use Rattle.std.specs.List.{concat}
 use Rattle.std.specs.Io.KnownBytes.{append_known}
 use Rattle.xan_io.specs.Faults.{Rose}
 use Rattle.xan_io.specs.Written.{AppendsPrefix}
+use Rattle.typed_core.specs.declared.goal.GoalAt.{GoalAt}
 use Rattle.xanadu_driver.specs.declared.answer.Answer.{Answer}
 use Rattle.xanadu_driver.specs.declared.answer.Answer.TheVariants as answer
 use Rattle.xanadu_driver.specs.declared.refusal.Refusal.{Refusal}
 use Rattle.xanadu_driver.specs.Correct.{Wrote, Cut}
 use Rattle.xanadu_driver.specs.Outside.{Held, Outside}
-use Rattle.xanadu_driver.specs.Report.{Report, report_of}
-use Rattle.xanadu_driver.specs.Source.{IsRefused}
-use Rattle.xanadu_driver.specs.Words.{Meant, Build}
+use Rattle.xanadu_driver.specs.Report.{Report, Found, Answered, Listed, report_of}
+use Rattle.xanadu_driver.specs.Source.{HasGoals, IsRefused, IsEarly}
+use Rattle.xanadu_driver.specs.Words.{Meant, Build, Goals}
 
 -- ---- names
 
@@ -19,11 +20,13 @@ use Rattle.xanadu_driver.specs.Words.{Meant, Build}
 abbrev pub Reads : Option Meant → List ℕ → Type 0
 Reads None name = ⊥
 Reads (Some (Build source target)) name = name ≡ source
+Reads (Some (Goals source)) name = name ≡ source
 
 -- the command writes this name
 abbrev pub Writes : Option Meant → List ℕ → Type 0
 Writes None name = ⊥
 Writes (Some (Build source target)) name = name ≡ target
+Writes (Some (Goals source)) name = ⊥
 
 -- no name holds anything else
 abbrev pub Unchanged : Held → Held → Type 0
@@ -51,6 +54,11 @@ pub record WriteFails (source target : List ℕ) (before after : Held) : Type 0 
 pub record Builds (source target : List ℕ) (instructions : ℕ) (before after : Held) : Type 0 where
   pub wrote : (told : List ℕ) → before.content source ≡ Some told → Wrote told instructions (before.content target) (after.content target)
 
+-- where the source is told, these are its goals
+pub record Lists (source : List ℕ) (goals : List GoalAt) (before after : Held) : Type 0 where
+  pub has : (told : List ℕ) → before.content source ≡ Some told → HasGoals told goals
+  pub unchanged : Unchanged before after
+
 -- of a command to build
 abbrev pub BuildCauses : (source target : List ℕ) → Held → Held → Answer → Type 0
 BuildCauses source target before after answer.NoCommand = ⊥
@@ -65,9 +73,22 @@ abbrev pub NoCauses : Held → Held → Answer → Type 0
 NoCauses before after answer.NoCommand = Unchanged before after
 NoCauses before after _ = ⊥
 
-abbrev pub Causes : Option Meant → Held → Held → Answer → Type 0
-Causes None before after answer = NoCauses before after answer
-Causes (Some (Build source target)) before after answer = BuildCauses source target before after answer
+-- of a command to list goals: what the source is refused for stands in front of its goals
+abbrev pub GoalsCauses : (source : List ℕ) → Held → Held → Found → Type 0
+GoalsCauses source before after (Answered answer.NoCommand) = ⊥
+GoalsCauses source before after (Answered answer.ReadFailed) = ReadFails source before after
+GoalsCauses source before after (Answered (answer.Refused refusal)) = Refuses source refusal before after × IsEarly refusal
+GoalsCauses source before after (Answered answer.Memory) = Unchanged before after
+GoalsCauses source before after (Answered answer.WriteFailed) = ⊥
+GoalsCauses source before after (Answered (answer.Built instructions)) = ⊥
+GoalsCauses source before after (Listed goals) = Lists source goals before after
+
+abbrev pub Causes : Option Meant → Held → Held → Found → Type 0
+Causes None before after (Answered answer) = NoCauses before after answer
+Causes None before after (Listed goals) = ⊥
+Causes (Some (Build source target)) before after (Answered answer) = BuildCauses source target before after answer
+Causes (Some (Build source target)) before after (Listed goals) = ⊥
+Causes (Some (Goals source)) before after found = GoalsCauses source before after found
 
 -- ---- what is said
 
@@ -88,11 +109,11 @@ Says report status faults faults' out out' = SaidAll report status faults faults
 
 -- ---- whole commands
 
--- how a command went: its answer, the cause, and how much was said of it
+-- how a command went: what it came to, the cause, and how much was said of it
 pub record Went (meant : Option Meant) (before after : Outside) (status : ℕ) : Type 0 where
-  pub answer : Answer
-  pub cause : Causes meant before.files after.files answer
-  pub said : Says (report_of answer) status before.faults after.faults before.written after.written
+  pub found : Found
+  pub cause : Causes meant before.files after.files found
+  pub said : Says (report_of found) status before.faults after.faults before.written after.written
 
 -- no count rose of the calls that the command makes
 pub record NothingFailed (meant : Option Meant) (before after : Outside) : Type 0 where

@@ -8,6 +8,9 @@ use Rattle.xan_io.specs.Outcome.{How, Returned, NoStore, Overflow, Outcome}
 use Rattle.dtal_code.specs.declared.straight.Straight.{Straight}
 use Rattle.dtal_code.specs.Entry.{straight_run}
 use Rattle.dtal_code.specs.Text.{Spells}
+use Rattle.xanadu_tree.specs.Plain as plain
+use Rattle.xanadu_tree.specs.Small.{IsSmall}
+use Rattle.xanadu_driver.specs.Lowering.{straight_of}
 use Rattle.xanadu_driver.specs.Meaning.{source_run}
 use Rattle.xanadu_driver.specs.Source.{HasCode}
 
@@ -23,7 +26,16 @@ abbrev pub RunEnds : (depth : ℕ) → Result (ℕ → Outcome) EntryFault → �
 RunEnds depth (Ok run) units = HasEnded depth (run units).how
 RunEnds depth (Err fault) units = Unit {0}
 
--- The source has a small core, and the text spells exactly its code, of so many instructions; core and code agree for all arguments, all
+-- The core is small, and the text spells exactly its code, of so many instructions.
+pub record IsTextOf (core : plain.Program) (text : List ℕ) (instructions : ℕ) : Type 0 where
+  pub program : Straight
+  pub small : IsSmall core
+  pub lowered : program ≡ straight_of small.count small.value
+  pub spelled : Spells text program
+  pub only : (other : Straight) → Spells text other → other ≡ program
+  pub counted : instructions ≡ length program.code
+
+-- The source has a small core, whose goals are proved, and the text spells exactly its code, of so many instructions; core and code agree for all arguments, all
 -- sizes of the store and all depths, and both end.
 pub record Translates (source text : List ℕ) (instructions : ℕ) : Type 0 where
   pub program : Straight

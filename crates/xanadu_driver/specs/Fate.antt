@@ -6,6 +6,10 @@ use Rattle.xanadu_parser.specs.Parsing.{parsed}
 use Rattle.xanadu_tree.specs.Plain as plain
 use Rattle.type_shapes.specs.Faults.{Fault}
 use Rattle.scope_shapes.specs.Shape.{shape}
+use Rattle.typed_core.specs.Goals.{Elaboration, elaborated}
+use Rattle.typed_core.specs.Limits.{Stop, Past, Misfit, Stray}
+use Rattle.typed_core.specs.declared.goal.GoalAt.{GoalAt}
+use Rattle.goal_table.specs.Unproved.{Failure, first_unproved}
 use Rattle.dtal_code.specs.declared.straight.Straight.{Straight}
 use Rattle.xanadu_driver.specs.declared.refusal.Refusal.TheVariants as refusal
 use Rattle.xanadu_driver.specs.declared.refusal.SourceError.{SourceError}
@@ -27,6 +31,16 @@ short bytes = if nat_le (length bytes) SOURCE_MOST then Ok bytes else Err (error
 abbrev pub of_fault : Fault → SourceError
 of_fault fault = error.Refused (refusal.Shape fault.kind fault.at)
 
+-- no core that the shapes give is a misfit or a stray
+abbrev pub of_walk : Stop → SourceError
+of_walk (Past kind) = error.Refused (refusal.Past kind)
+of_walk Misfit = error.Memory
+of_walk Stray = error.Memory
+
+abbrev pub none_fails : Option Failure → Result (Unit {0}) SourceError
+none_fails None = Ok tt
+none_fails (Some failure) = Err (error.Refused (refusal.Goal failure.number failure.at failure.row failure.answer))
+
 -- ---- code
 
 abbrev pub other_form : Result Straight SourceError
@@ -46,10 +60,37 @@ lowered core = if is_small core then lowered_functions core.funs else other_form
 
 -- ---- the passes in their order
 
-unfoldable pub fate : List ℕ → Result Straight SourceError
-fate bytes = do
+-- the core of the source
+unfoldable pub core_of : List ℕ → Result plain.Program SourceError
+core_of bytes = do
   source ← short bytes
   tokens ← or_stop of_lexer (lexed source)
   tree ← or_stop of_parser (parsed tokens (length source))
-  core ← or_stop of_fault (shape tree (length source))
-  lowered core
+  or_stop of_fault (shape tree (length source))
+
+-- a core, and what elaboration makes of it
+pub record Checked : Type 0 where
+  pub core : plain.Program
+  pub made : Elaboration
+
+abbrev pub checked_with : plain.Program → Elaboration → Checked
+checked_with core made = record { core = core; made = made }
+
+unfoldable pub checked_of : List ℕ → Result Checked SourceError
+checked_of bytes = do
+  core ← core_of bytes
+  made ← or_stop of_walk (elaborated core)
+  Ok (checked_with core made)
+
+-- the goals of the source
+abbrev pub goals_of : List ℕ → Result (List GoalAt) SourceError
+goals_of bytes = do
+  checked ← checked_of bytes
+  Ok checked.made.goals
+
+-- its code
+unfoldable pub fate : List ℕ → Result Straight SourceError
+fate bytes = do
+  checked ← checked_of bytes
+  proved ← none_fails (first_unproved checked.made.goals)
+  lowered checked.core

@@ -3,6 +3,8 @@ pub mod Causes
 pub mod Correct
 pub mod Fate
 pub mod Forms
+pub mod Goals
+pub mod Listing
 pub mod Lowering
 pub mod Meaning
 pub mod Outside

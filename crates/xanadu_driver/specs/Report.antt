@@ -1,30 +1,47 @@
 -- What the program reports of a command.
 use Rattle.std.specs.Prelude.{ℕ, List, [], ◌∷◌, length, Option, Some, None, option_map, Result, Ok, Err}
 use Rattle.dtal_code.specs.declared.straight.Straight.{Straight}
+use Rattle.typed_core.specs.declared.goal.GoalAt.{GoalAt}
 use Rattle.xanadu_driver.specs.declared.answer.Answer.{Answer}
 use Rattle.xanadu_driver.specs.declared.answer.Answer.TheVariants as answer
 use Rattle.xanadu_driver.specs.declared.refusal.SourceError.{SourceError}
 use Rattle.xanadu_driver.specs.declared.refusal.SourceError.TheVariants as error
 use Rattle.xanadu_driver.specs.Answers.{status_of, line_of}
-use Rattle.xanadu_driver.specs.Fate.{fate}
-use Rattle.xanadu_driver.specs.Words.{Meant, Build}
+use Rattle.xanadu_driver.specs.Fate.{fate, goals_of}
+use Rattle.xanadu_driver.specs.Goals.{goal_lines, goals_status}
+use Rattle.xanadu_driver.specs.Words.{Meant, Build, Goals}
 
 -- lines for the output, and the status to end with
 pub record Report : Type 0 where
   pub lines : List (List ℕ)
   pub status : ℕ
 
-abbrev pub report_of : Answer → Report
-report_of answer = record { lines = line_of answer ∷ []; status = status_of answer }
+-- what a command comes to, before it is said: an answer of one line, or goals to be listed
+pub data Found : Type 0 where
+  Answered : Answer → Found
+  Listed : List GoalAt → Found
+
+abbrev pub report_of : Found → Report
+report_of (Answered answer) = record { lines = line_of answer ∷ []; status = status_of answer }
+report_of (Listed goals) = record { lines = goal_lines 0 goals; status = goals_status goals }
+
+abbrev pub stopped : SourceError → Answer
+stopped (error.Refused refusal) = answer.Refused refusal
+stopped error.Memory = answer.Memory
 
 -- the answer to a source of this fate
-abbrev pub answer_to : Result Straight SourceError → Answer
-answer_to (Ok program) = answer.Built (length program.code)
-answer_to (Err (error.Refused refusal)) = answer.Refused refusal
-answer_to (Err error.Memory) = answer.Memory
+abbrev pub built : Result Straight SourceError → Found
+built (Ok program) = Answered (answer.Built (length program.code))
+built (Err stop) = Answered (stopped stop)
+
+-- what is listed of a source with these goals
+abbrev pub listed : Result (List GoalAt) SourceError → Found
+listed (Ok goals) = Listed goals
+listed (Err stop) = Answered (stopped stop)
 
 -- What is reported of the command that was meant, over these contents, where no call of the outside fails and memory suffices. There is no
 -- report where the content of the source is not told.
 abbrev pub report : Option Meant → (List ℕ → Option (List ℕ)) → Option Report
-report None content = Some (report_of answer.NoCommand)
-report (Some (Build source target)) content = option_map (λ bytes. report_of (answer_to (fate bytes))) (content source)
+report None content = Some (report_of (Answered answer.NoCommand))
+report (Some (Build source target)) content = option_map (λ bytes. report_of (built (fate bytes))) (content source)
+report (Some (Goals source)) content = option_map (λ bytes. report_of (listed (goals_of bytes))) (content source)

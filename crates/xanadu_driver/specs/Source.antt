@@ -1,7 +1,8 @@
--- How far the bytes of a source come: they are refused for one thing, or have a core that is small, and its code.
+-- How far the bytes of a source come: they are refused for one thing, or have a core that is small and whose goals are proved, and its code.
 --
--- A source is looked at in this order: its length, its tokens, how deep its brackets nest, its tree, its shape, its form.
-use Rattle.std.specs.Prelude.{◌≡◌, ℕ, ◌≤◌, ◌<◌, List, length, Result, Ok, Err}
+-- A source is looked at in this order: its length, its tokens, how deep its brackets nest, its tree, its shape, the limits of its core, its
+-- goals, its form.
+use Rattle.std.specs.Prelude.{◌≡◌, ℕ, ◌≤◌, ◌<◌, List, length, Some, None, Result, Ok, Err}
 use Rattle.xanadu_lexer.specs.declared.error.LexError.TheVariants as lex_error
 use Rattle.xanadu_lexer.specs.declared.error.LexKind.{LexKind}
 use Rattle.xanadu_lexer.specs.declared.token.Token.{Token}
@@ -16,6 +17,11 @@ use Rattle.xanadu_tree.specs.Written.{Parses}
 use Rattle.type_shapes.specs.declared.error.ShapeKind.{ShapeKind}
 use Rattle.type_shapes.specs.Faults.{Fault}
 use Rattle.scope_shapes.specs.Shape.{shape}
+use Rattle.xan_lin.specs.declared.term.LimitKind.{LimitKind}
+use Rattle.typed_core.specs.Goals.{Elaboration, elaborated}
+use Rattle.typed_core.specs.Limits.{Past}
+use Rattle.typed_core.specs.declared.goal.GoalAt.{GoalAt}
+use Rattle.goal_table.specs.Unproved.{Failure, first_unproved}
 use Rattle.dtal_code.specs.declared.straight.Straight.{Straight}
 use Rattle.xanadu_driver.specs.Lowering.{straight_of}
 use Rattle.xanadu_driver.specs.declared.refusal.Refusal.{Refusal}
@@ -44,10 +50,28 @@ pub record IsCore (bytes : List ℕ) (core : plain.Program) : Type 0 where
   pub has : HasTree bytes written
   pub shaped : shape written (length bytes) ≡ Ok core
 
--- its core is small, and this is its code
+-- its core passes no limit, and elaboration makes this of it
+pub record IsElaborated (bytes : List ℕ) (core : plain.Program) (made : Elaboration) : Type 0 where
+  pub has : IsCore bytes core
+  pub elaborated : elaborated core ≡ Ok made
+
+-- its goals are these
+pub record HasGoals (bytes : List ℕ) (goals : List GoalAt) : Type 0 where
+  pub core : plain.Program
+  pub made : Elaboration
+  pub has : IsElaborated bytes core made
+  pub are : goals ≡ made.goals
+
+-- all its goals are proved
+pub record IsProved (bytes : List ℕ) (core : plain.Program) : Type 0 where
+  pub made : Elaboration
+  pub has : IsElaborated bytes core made
+  pub proved : first_unproved made.goals ≡ None
+
+-- its goals are proved, its core is small, and this is its code
 pub record HasCode (bytes : List ℕ) (program : Straight) : Type 0 where
   pub core : plain.Program
-  pub has : IsCore bytes core
+  pub has : IsProved bytes core
   pub small : IsSmall core
   pub lowered : program ≡ straight_of small.count small.value
 
@@ -78,10 +102,23 @@ pub record IsShapeFault (bytes : List ℕ) (kind : ShapeKind) (at : ℕ) : Type 
   pub has : HasTree bytes written
   pub fault : ◌≡◌ {A = Result plain.Program Fault} (shape written (length bytes)) (Err (record { at = at; kind = kind }))
 
--- it has a core, which is not small
-pub record IsOfOtherForm (bytes : List ℕ) : Type 0 where
+-- the first limit that its core passes
+pub record IsPastLimit (bytes : List ℕ) (kind : LimitKind) : Type 0 where
   pub core : plain.Program
   pub has : IsCore bytes core
+  pub past : elaborated core ≡ Err (Past kind)
+
+-- the first of its goals that is not proved
+pub record IsUnproved (bytes : List ℕ) (failure : Failure) : Type 0 where
+  pub core : plain.Program
+  pub made : Elaboration
+  pub has : IsElaborated bytes core made
+  pub first : first_unproved made.goals ≡ Some failure
+
+-- its goals are proved, and its core is not small
+pub record IsOfOtherForm (bytes : List ℕ) : Type 0 where
+  pub core : plain.Program
+  pub has : IsProved bytes core
   pub other : IsSmall core → ⊥
 
 -- The source is refused for this. It is refused for one thing at most, and then it has no small core.
@@ -91,6 +128,8 @@ IsRefused bytes (refusal.Bytes at) = IsBytesFault bytes at
 IsRefused bytes refusal.Nesting = IsNestedSource bytes
 IsRefused bytes (refusal.Parse at) = IsParseFault bytes at
 IsRefused bytes (refusal.Shape kind at) = IsShapeFault bytes kind at
+IsRefused bytes (refusal.Past kind) = IsPastLimit bytes kind
+IsRefused bytes (refusal.Goal number at row answer) = IsUnproved bytes (record { number = number; at = at; row = row; answer = answer })
 IsRefused bytes refusal.NotBuilt = IsOfOtherForm bytes
 
 -- a source of which nothing came: it is refused, or memory ran out
@@ -98,7 +137,30 @@ abbrev pub Stops : List ℕ → SourceError → Type 0
 Stops bytes (error.Refused refusal) = IsRefused bytes refusal
 Stops bytes error.Memory = Unit {0}
 
--- What becomes of a source where memory suffices: the code of its small core, or what it is refused for.
+-- in front of all goals
+abbrev pub IsEarly : Refusal → Type 0
+IsEarly (refusal.Goal number at row answer) = ⊥
+IsEarly refusal.NotBuilt = ⊥
+IsEarly _ = Unit {0}
+
+abbrev pub ComesEarly : SourceError → Type 0
+ComesEarly (error.Refused refusal) = IsEarly refusal
+ComesEarly error.Memory = Unit {0}
+
+-- one of these goals is the first that is not proved, or memory ran out
+abbrev pub FailsGoals : List GoalAt → SourceError → Type 0
+FailsGoals goals (error.Refused (refusal.Goal number at row answer)) =
+    first_unproved goals ≡ Some (record { number = number; at = at; row = row; answer = answer })
+FailsGoals goals (error.Refused _) = ⊥
+FailsGoals goals error.Memory = Unit {0}
+
+-- the core is not small, or memory ran out
+abbrev pub FailsForm : plain.Program → SourceError → Type 0
+FailsForm core (error.Refused refusal.NotBuilt) = IsSmall core → ⊥
+FailsForm core (error.Refused _) = ⊥
+FailsForm core error.Memory = Unit {0}
+
+-- What becomes of a source where memory suffices: the code of its small core, whose goals are proved, or what it is refused for.
 abbrev pub HasFate : List ℕ → Result Straight SourceError → Type 0
 HasFate bytes (Ok program) = HasCode bytes program
 HasFate bytes (Err (error.Refused refusal)) = IsRefused bytes refusal

@@ -5,8 +5,8 @@ ghost use Rattle.xanadu_driver.specs.Answers.{status_of};
 
 use crate::refusal::Refusal;
 
-/// How a command came out, in the order in which it may end.
-#[derive(Clone, Copy)]
+/// How a command came out that says one line, in the order in which it may end.
+#[derive(Drop)]
 pub enum Answer {
     /// The words are no command.
     NoCommand,
@@ -18,14 +18,14 @@ pub enum Answer {
     Memory,
     /// The text could not be written.
     WriteFailed,
-    /// The text of so many instructions is written.
+    /// The text of a function without goals, of so many instructions, is written.
     Built(u32),
 }
 
 impl Answer {
     /// The status that the program ends with.
-    pub fn status(self) -> u8
-        ensures { result ≡ status_of self }
+    pub fn status(&self) -> u8
+        ensures { result ≡ status_of self.now }
     {
         match self {
             Answer::Built(_) => 0,

@@ -1,20 +1,24 @@
 //! The compiler as a whole: from the words of its command line to a status, a line and a text.
 //!
-//! [`xanadu_top`] reads the source of one name and writes the text of another. Its contract says when each status comes, what each name
-//! holds afterwards, what is said, and that a built text does what its source does. It stands on the lexer, the parser, the shapes, the
-//! trees, the assembly language, and the files and the sink that it is given.
+//! [`xanadu_top`] reads the source of one name and writes the text of another, or lists the goals of a source. Its contract says when each
+//! status comes, what each name holds afterwards, what is said, and that a built text does what its source does. It stands on the lexer,
+//! the parser, the shapes, elaboration, the solver, the assembly language, and the files and the sink that it is given.
 #![tactic(auto)]
 
 mod answer;
 mod build;
+mod goal_lines;
+mod goals;
 mod laws;
 mod lines;
+mod listing;
 mod lower;
 mod refusal;
 mod small;
 mod top;
 mod translate;
 mod words;
+mod workspace;
 
 pub use laws::sources_have_one_fate;
 pub use top::xanadu_top;

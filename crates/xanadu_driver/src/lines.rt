@@ -8,19 +8,18 @@ ghost use Rattle.xanadu_driver.specs.Answers as spec;
 ghost use Rattle.xanadu_driver.specs.Answers.{numbered};
 
 use crate::answer::Answer;
+use crate::goal_lines::{Line, line_of_goal, push_words, word_of_limit};
 use crate::refusal::Refusal;
 use arrayvec::ArrayString;
 use itoa::Buffer;
 use xan_io::{Sink, SinkFault};
-
-/// A line. The longest is two words, each with a number, and a third word.
-type Line = ArrayString<170>;
+use xan_lin::{Form, LimitKind};
 
 /// Puts the line of the answer.
-pub fn put_line<O: Sink>(out: &mut O, answer: Answer) -> Result<(), SinkFault>
-    ensures appended { OnOk result (O.written out.new ≡ append_known (O.written out.old) (spec.line_of answer)) }
+pub fn put_line<O: Sink>(out: &mut O, answer: &Answer) -> Result<(), SinkFault>
+    ensures appended { OnOk result (O.written out.new ≡ append_known (O.written out.old) (spec.line_of answer.now)) }
     ensures counted { OnOk result (O.faults out.new ≡ O.faults out.old) }
-    ensures prefix { OnErr result (AppendsPrefix (O.written out.old) (O.written out.new) (spec.line_of answer)) }
+    ensures prefix { OnErr result (AppendsPrefix (O.written out.old) (O.written out.new) (spec.line_of answer.now)) }
     ensures failed { OnErr result (Rose (O.faults out.old) (O.faults out.new)) }
     ensures never_falls { O.faults out.old ≤ O.faults out.new }
 {
@@ -29,13 +28,13 @@ pub fn put_line<O: Sink>(out: &mut O, answer: Answer) -> Result<(), SinkFault>
 }
 
 /// The line of an answer.
-fn line_of(answer: Answer) -> Line
-    ensures { result.bytes ≡ spec.line_of answer }
+fn line_of(answer: &Answer) -> Line
+    ensures { result.bytes ≡ spec.line_of answer.now }
 {
     match answer {
         Answer::Built(instructions) => line_of_number(
             "built: 1 functions, 0 goals, ",
-            instructions,
+            *instructions,
             " instructions\n",
         ),
         Answer::NoCommand => line_of_word("words: not a command\n"),
@@ -47,19 +46,45 @@ fn line_of(answer: Answer) -> Line
 }
 
 /// The line of a refusal.
-fn line_of_refusal(refusal: Refusal) -> Line
-    ensures { result.bytes ≡ spec.refusal_line refusal }
+fn line_of_refusal(refusal: &Refusal) -> Line
+    ensures { result.bytes ≡ spec.refusal_line refusal.now }
 {
     match refusal {
         Refusal::Length => line_of_word("limit: length 1048576\n"),
         Refusal::Nesting => line_of_word("limit: nesting 64\n"),
-        Refusal::Bytes(at) => line_of_number("bytes: at ", at, "\n"),
-        Refusal::Parse(at) => line_of_number("parse: at ", at, "\n"),
+        Refusal::Bytes(at) => line_of_number("bytes: at ", *at, "\n"),
+        Refusal::Parse(at) => line_of_number("parse: at ", *at, "\n"),
         Refusal::Shape(kind, at) => {
-            line_of_numbers("shape ", u32::from(kind.number()), ": at ", at, "\n")
+            line_of_numbers("shape ", u32::from(kind.number()), ": at ", *at, "\n")
         }
+        Refusal::Past(kind) => line_of_limit(*kind),
+        Refusal::Goal {
+            number,
+            at,
+            row,
+            answer,
+        } => line_of_failure(*number, *at, row, *answer),
         Refusal::NotBuilt => line_of_word("not built yet\n"),
     }
+}
+
+/// The line of the first goal that is not proved: the limit that its elimination met, or the goal.
+fn line_of_failure(number: u32, at: u32, row: &Form, found: linear_solver::Answer) -> Line
+    ensures { result.bytes ≡ spec.failure_line number at row.now found }
+{
+    match found {
+        linear_solver::Answer::Limit(kind) => line_of_limit(kind),
+        _ => line_of_goal(u64::from(number), at, row, found),
+    }
+}
+
+/// The line of a limit that is passed.
+fn line_of_limit(kind: LimitKind) -> Line
+    ensures { result.bytes ≡ spec.limit_line kind }
+{
+    let mut line = ArrayString::new();
+    push_words(&mut line, "limit: ", word_of_limit(kind), "\n");
+    line
 }
 
 /// A line that is always the same.

@@ -1,12 +1,17 @@
 //! What a source can be refused for, and what each pass stops with.
 
 ghost use Rattle.std.specs.Prelude.{◌≡◌};
-ghost use Rattle.xanadu_driver.specs.Answers.{refusal_status};
-ghost use Rattle.xanadu_driver.specs.Stops.{of_lexer, of_parser, of_shapes};
+ghost use Rattle.xanadu_driver.specs.Answers.{found_status, refusal_status};
+ghost use Rattle.xanadu_driver.specs.Stops.{of_lexer, of_parser, of_shapes, of_elaborator, of_goals};
 ghost use Rattle.xanadu_driver.specs.declared.refusal.SourceError.TheVariants.{Memory as memory};
 
+use crate::workspace::NoRoom;
+use constraint_elaborator::ElabError;
+use goal_table::GoalError;
+use linear_solver::Answer;
 use type_shapes::{ShapeError, ShapeKind};
 use xan_io::Memory;
+use xan_lin::{Form, LimitKind};
 use xanadu_lexer::LexError;
 use xanadu_parser::ParseError;
 
@@ -14,7 +19,7 @@ use xanadu_parser::ParseError;
 pub const SOURCE_MOST: u64 = 1_048_576;
 
 /// Why a source is not built, in the order in which it is looked for. Places are offsets in bytes.
-#[derive(Clone, Copy)]
+#[derive(Drop)]
 pub enum Refusal {
     /// It has more than 1048576 bytes.
     Length,
@@ -26,27 +31,52 @@ pub enum Refusal {
     Parse(u32),
     /// The first fault of its shape, and where it stands.
     Shape(ShapeKind, u32),
-    /// It has a core, of a form that is not built yet.
+    /// The first limit that its core passes.
+    Past(LimitKind),
+    /// The first of its goals that is not proved.
+    Goal {
+        /// How many goals stand before it.
+        number: u32,
+        /// Where it is reported.
+        at: u32,
+        /// The row that was to be proved.
+        row: Form,
+        /// What the elimination answers.
+        answer: Answer,
+    },
+    /// Its goals are proved, and it is of a form that is not built yet.
     NotBuilt,
 }
 
 impl Refusal {
     /// The status that the program ends with.
-    pub fn status(self) -> u8
-        ensures { result ≡ refusal_status self }
+    pub fn status(&self) -> u8
+        ensures { result ≡ refusal_status self.now }
     {
         match self {
-            Refusal::Length | Refusal::Nesting => 5,
+            Refusal::Length | Refusal::Nesting | Refusal::Past(_) => 5,
             Refusal::Bytes(_) => 7,
             Refusal::Parse(_) => 8,
             Refusal::Shape(_, _) => 9,
+            Refusal::Goal { answer, .. } => status_of_goal(*answer),
             Refusal::NotBuilt => 20,
         }
     }
 }
 
+/// The status of a goal with this answer.
+pub fn status_of_goal(found: Answer) -> u8
+    ensures { result ≡ found_status found }
+{
+    match found {
+        Answer::Proved => 0,
+        Answer::Unproved => 10,
+        Answer::Limit(_) => 5,
+    }
+}
+
 /// Why nothing came of a source.
-#[derive(Clone, Copy)]
+#[derive(Drop)]
 pub enum SourceError {
     /// It is refused for this.
     Refused(Refusal),
@@ -88,10 +118,50 @@ impl From<ShapeError> for SourceError {
     }
 }
 
+impl From<ElabError> for SourceError {
+    ghost from_gives = { λ error stop. stop ≡ of_elaborator error };
+
+    fn from(error: ElabError) -> SourceError {
+        match error {
+            ElabError::Limit(kind) => SourceError::Refused(Refusal::Past(kind)),
+            ElabError::Memory => SourceError::Memory,
+        }
+    }
+}
+
+impl From<GoalError> for SourceError {
+    ghost from_gives = { λ error stop. stop ≡ of_goals error };
+
+    fn from(error: GoalError) -> SourceError {
+        match error {
+            GoalError::Goal {
+                number,
+                at,
+                row,
+                answer,
+            } => SourceError::Refused(Refusal::Goal {
+                number,
+                at,
+                row,
+                answer,
+            }),
+            GoalError::Memory => SourceError::Memory,
+        }
+    }
+}
+
 impl From<Memory> for SourceError {
     ghost from_gives = { λ _ stop. stop ≡ memory };
 
     fn from(_error: Memory) -> SourceError {
+        SourceError::Memory
+    }
+}
+
+impl From<NoRoom> for SourceError {
+    ghost from_gives = { λ _ stop. stop ≡ memory };
+
+    fn from(_error: NoRoom) -> SourceError {
         SourceError::Memory
     }
 }

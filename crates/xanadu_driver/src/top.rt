@@ -1,23 +1,26 @@
 //! The whole program: words in, a status out.
 
-ghost use Rattle.std.specs.Prelude.{◌≡◌, ◌≢◌, ◌⊎◌, ℕ, List, Some};
+ghost use Rattle.std.specs.Prelude.{◌≡◌, ◌≢◌, ◌⊎◌, ℕ, List, Some, IfOk};
 ghost use Rattle.xanadu_driver.specs.Causes.{Causes, Says, Went, Writes, NothingFailed, IsReported};
+ghost use Rattle.xanadu_driver.specs.Listing.{HasRoom, found_of};
 ghost use Rattle.xanadu_driver.specs.Outside.{held, outside};
-ghost use Rattle.xanadu_driver.specs.Report.{Report, report, report_of};
+ghost use Rattle.xanadu_driver.specs.Report.{Report, Answered, report, report_of};
 ghost use Rattle.xanadu_driver.specs.Words.{commanded};
 
 use crate::answer::Answer;
 use crate::build::build;
+use crate::goals::goals;
 use crate::lines::put_line;
-use crate::words::read_command;
+use crate::listing::{Listing, list};
+use crate::words::{Command, read_command};
 use std::alloc::Global;
 use xan_io::{Files, Sink};
 
-/// Does what the words ask for, says how it came out in a line on `out`, and answers the status to end with.
+/// Does what the words ask for, says how it came out on `out`, and answers the status to end with.
 ///
-/// The words are those behind the program's own name. The statuses are 0 (built), 2 (the words are no command), 3 (the source was not
-/// read), 4 (the text or the line was not written), 5 (the source is too long, or its brackets nest too deep), 6 (memory), 7 (the source
-/// has no tokens), 8 (it has no tree), 9 (its shape has a fault) and 20 (it is of no form that is built yet).
+/// The words are those behind the program's own name. The statuses are 0 (built, or all goals are proved), 2 (the words are no command),
+/// 3 (the source was not read), 4 (the text or a line was not written), 5 (a limit is passed), 6 (memory), 7 (the source has no tokens),
+/// 8 (it has no tree), 9 (its shape has a fault), 10 (a goal is not proved) and 20 (it is of no form that is built yet).
 pub fn xanadu_top<F: Files, O: Sink>(
     alloc: Global,
     words: &[&str],
@@ -40,24 +43,28 @@ pub fn xanadu_top<F: Files, O: Sink>(
         → NothingFailed (commanded words.now) (outside F.Files O.Sink files.old out.old) (outside F.Files O.Sink files.new out.new)
         → (result ≡ reported.status) ⊎ (result ≡ 6) }
 {
-    let answer = run(alloc, words, files);
-    say(out, answer)
+    match run(alloc, words, files) {
+        Ok(listing) => list(out, listing),
+        Err(answer) => say(out, &answer),
+    }
 }
 
-/// Does what the words ask for.
-fn run<F: Files>(alloc: Global, words: &[&str], files: &mut F) -> Answer
-    ensures caused { Causes (commanded words.now) (held F.Files files.old) (held F.Files files.new) result }
+/// Does what the words ask for, up to what is said of it.
+fn run<F: Files>(alloc: Global, words: &[&str], files: &mut F) -> Result<Listing, Answer>
+    ensures caused { Causes (commanded words.now) (held F.Files files.old) (held F.Files files.new) (found_of result) }
+    ensures room { IfOk result HasRoom }
     ensures others { (name : List ℕ) → (Writes (commanded words.now) name → ⊥) → F.content files.new name ≡ F.content files.old name }
 {
     match read_command(words) {
-        Some(command) => build(alloc, files, command.source, command.target),
-        None => Answer::NoCommand,
+        Some(Command::Build { source, target }) => Err(build(alloc, files, source, target)),
+        Some(Command::Goals(source)) => goals(alloc, files, source),
+        None => Err(Answer::NoCommand),
     }
 }
 
 /// Puts the answer's line, and gives its status, or 4 where the line was not put whole.
-fn say<O: Sink>(out: &mut O, answer: Answer) -> u8
-    ensures { Says (report_of answer) result (O.faults out.old) (O.faults out.new) (O.written out.old) (O.written out.new) }
+fn say<O: Sink>(out: &mut O, answer: &Answer) -> u8
+    ensures { Says (report_of (Answered answer.now)) result (O.faults out.old) (O.faults out.new) (O.written out.old) (O.written out.new) }
 {
     match put_line(out, answer) {
         Ok(()) => answer.status(),

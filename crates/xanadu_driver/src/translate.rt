@@ -5,16 +5,21 @@ ghost use Rattle.xanadu_parser.specs.Faults.{IsAnswer};
 ghost use Rattle.xanadu_tree.specs.PlainOf.{plain_core};
 ghost use Rattle.xanadu_tree.specs.PlainTreeOf.{plain_tree};
 ghost use Rattle.xanadu_tree.specs.Small.{IsSmall};
-ghost use Rattle.xanadu_driver.specs.Correct.{Translates};
-ghost use Rattle.xanadu_driver.specs.Source.{Stops};
+ghost use Rattle.goal_table.specs.Answers.{AllAreProved};
+ghost use Rattle.xanadu_driver.specs.Correct.{Translates, IsTextOf};
+ghost use Rattle.xanadu_driver.specs.Source.{IsCore, IsElaborated, Stops, ComesEarly, FailsGoals, FailsForm};
 ghost use Rattle.xanadu_driver.specs.declared.refusal.TheConstants.{SOURCE_MOST};
 
 use crate::lower::lower;
 use crate::refusal::{Refusal, SourceError};
 use crate::small::is_small;
+use crate::workspace::Workspace;
+use constraint_elaborator::elaborate;
 use dtal_code::{one_program_a_text, print_straight};
+use goal_table::prove_all;
 use scope_shapes::resolve;
 use std::alloc::Global;
+use typed_core::{Elaborated, Proved};
 use xan_seq::Seq;
 use xanadu_lexer::{Token, lex};
 use xanadu_parser::{ParseError, parse};
@@ -34,18 +39,58 @@ pub fn compile(alloc: Global, source: &[u8]) -> Result<Text, SourceError>
     ensures text { IfOk result (λ text. Translates source.now text.bytes.items text.instructions) }
     ensures refused { IfErr result (Stops source.now) }
 {
+    let base = elaborate_source(alloc, source)?;
+    let proved = prove(alloc, base)?;
+    print_program(alloc, &proved)
+}
+
+/// The source's core with all that elaboration makes of it.
+pub fn elaborate_source(alloc: Global, source: &[u8]) -> Result<Elaborated, SourceError>
+    requires { length source.now ≤ SOURCE_MOST }
+    ensures goals { IfOk result (λ base. IsElaborated source.now (plain_core base.core) base.made) }
+    ensures refused { IfErr result (Stops source.now) }
+    ensures early { IfErr result ComesEarly }
+{
+    let core = find_core(alloc, source)?;
+    Ok(elaborate(alloc, core)?)
+}
+
+/// The source's core.
+fn find_core(alloc: Global, source: &[u8]) -> Result<Core, SourceError>
+    requires { length source.now ≤ SOURCE_MOST }
+    ensures core { IfOk result (λ core. IsCore source.now (plain_core core)) }
+    ensures refused { IfErr result (Stops source.now) }
+    ensures early { IfErr result ComesEarly }
+{
     let end = source.len() as u32;
     let tokens = lex(alloc, source)?;
     let tree = parse_tokens(alloc, tokens, end)?;
-    let core = resolve(alloc, &tree, end)?;
-    check_form(&core)?;
-    let program = lower(alloc, &core)?;
-    let bytes = print_straight(alloc, &program)?;
+    Ok(resolve(alloc, &tree, end)?)
+}
+
+/// The program with lines for each of its goals.
+fn prove(alloc: Global, base: Elaborated) -> Result<Proved, SourceError>
+    ensures proved { IfOk result (λ proved. AllAreProved base proved) }
+    ensures refused { IfErr result (FailsGoals base.made.goals) }
+{
+    let mut work = Workspace::new(alloc)?;
+    Ok(prove_all(alloc, base, &mut work.pool, &mut work.buf)?)
+}
+
+/// The text of a program of which all goals are proved.
+fn print_program(alloc: Global, program: &Proved) -> Result<Text, SourceError>
+    ensures text { IfOk result (λ text. IsTextOf (plain_core program.now.base.core) text.bytes.items text.instructions) }
+    ensures refused { IfErr result (FailsForm (plain_core program.now.base.core)) }
+{
+    let core = program.base().core();
+    check_form(core)?;
+    let code = lower(alloc, core)?;
+    let bytes = print_straight(alloc, &code)?;
     // Cites the law: the text spells no other program.
     one_program_a_text();
     Ok(Text {
         bytes,
-        instructions: program.code.as_slice().len() as u32,
+        instructions: code.code.as_slice().len() as u32,
     })
 }
 

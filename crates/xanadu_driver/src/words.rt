@@ -6,22 +6,27 @@ ghost use Rattle.xanadu_driver.specs.Words.{commanded, view};
 
 use xan_io::is_value;
 
-/// The command that builds the source of one name into the text of another.
+/// A command, over the source of a name.
 #[derive(Clone, Copy)]
-pub struct BuildCommand<'a> {
-    pub source: &'a str,
-    pub target: &'a str,
+pub enum Command<'a> {
+    /// To build it into the text of another name.
+    Build { source: &'a str, target: &'a str },
+    /// To list its goals.
+    Goals(&'a str),
 }
 
 /// The command that the words mean, or none.
 ///
 /// The first word is the command. The others are values: a word that begins with `-` and is longer than that is none.
-pub fn read_command<'a>(words: &[&'a str]) -> Option<BuildCommand<'a>>
+pub fn read_command<'a>(words: &[&'a str]) -> Option<Command<'a>>
     ensures { commanded words.now ≡ option_map view result }
 {
     match words {
         [command, source, target] if *command == "build" && is_value(source) && is_value(target) =>
-            { Some(BuildCommand { source, target }) }
+            { Some(Command::Build { source, target }) }
+        [command, source] if *command == "goals" && is_value(source) => {
+            Some(Command::Goals(source))
+        }
         _ => None,
     }
 }

@@ -91,7 +91,6 @@ const OTHER_FORMS: &[&[u8]] = &[
     b"fun main{n: int}(x: int(n)): int(n) { return x; }",
     b"fun main(x: int): int { return x + (x + x); }",
     b"fun main(x: int): int { return x + x / 2; }",
-    b"fun main(a: int, b: int, c: int, d: int, e: int, f: int, g: int, h: int, i: int): int { return h; }",
     b"fun main{n: nat}(a: int[n]): int {\n  var i = 0;\n  var s = 0;\n  while (i < len(a)) with {k: int | 0 <= k, k <= n} (i: int(k)) {\n    s = s + a[i];\n    i = i + 1;\n  }\n  return s;\n}\n",
 ];
 

@@ -1,6 +1,6 @@
 //! The sources of `examples/shapes.txt`, with the fault of shape that each has.
 
-use crate::tests::{Outcome, is_left, keeping};
+use crate::tests::{Outcome, has_core, is_left, keeping};
 use std::alloc::Global;
 use std::test::Fail;
 use xan_io::Memory;
@@ -219,7 +219,7 @@ fn each_fault_of_shape_is_told(rt: HostRuntime) -> Result<(), Fail> {
         let marked = unmarked(alloc, row)?;
         let run = keeping(alloc, marked.source.as_slice())?;
         let right = if *number == 0 {
-            run.status == 0 || run.status == 20
+            run.status == 0 || has_core(&run)
         } else {
             is_fault(alloc, &run, *number, marked.at)?
         };

@@ -1,0 +1,11 @@
+use Rattle.std.proofs.Common.{◌≡◌}
+use Rattle.xanadu_driver.specs.Listing.{HasPool}
+use Rattle.xanadu_driver.proofs.Listings.{Puts}
+use Rattle.xanadu_driver.proofs.listing.put_goals.Given as goal
+
+abbrev pub invariant-goals : goal.invariant-goals
+invariant-goals g l = record {
+  puts : Puts l.goals l.number (g.O.Sink.written l.fn.out) (g.O.Sink.written l.out) l.status;
+  counted : g.O.Sink.faults l.out ≡ g.O.Sink.faults l.fn.out;
+  room : HasPool l.work.pool;
+}
