@@ -1,6 +1,7 @@
 #!/usr/bin/env sh
 # Builds the benchmarks and prints how many proof lines a second are checked, beside a plain loop in C that does the same sums; how many megabytes
-# a second of two sources of a mebibyte are lexed and parsed; and how many goals a second are proved.
+# a second of two sources of a mebibyte are lexed and parsed; how long the goals of whole sources take, with bin/xanadu of tools/try.sh; and how many
+# goals a second are proved.
 set -e
 cd "$(dirname "$0")/.."
 mkdir -p bin
@@ -70,5 +71,47 @@ for source in functions_of_sums long_statements; do
         echo "$source: $((speed / 10)).$((speed % 10)) MB a second, $kind"
     done
 done
+
+# so many functions, each with a loop that sums an array
+functions_of_loops() {
+    awk -v functions="$1" 'BEGIN {
+        for (made = 0; made < functions; made++) {
+            print "fun f" made "{n: nat}(a: int[n]): int {\n  var i = 0;\n  var s = 0;"
+            print "  while (i < len(a)) with {k: int | 0 <= k, k <= n} (i: int(k)) {\n    s = s + a[i];\n    i = i + 1;\n  }\n  return s;\n}"
+        }
+        print "fun main(): int { return 0; }"
+    }'
+}
+
+# a function that begins so, with this line until it fills the source
+filled_with() {
+    awk -v first="$1" -v line="$2" -v most=$((SOURCE_BYTES - 4000)) 'BEGIN {
+        print first
+        for (size = 0; size < most; size += length(line) + 1) print line
+        print "return v0;\n}"
+    }'
+}
+
+twenty_variables() {
+    awk 'BEGIN { for (i = 0; i < 20; i++) printf "var v%d = %d; ", i, i }'
+}
+
+# milliseconds that the goals of this source take, whatever they come to
+goals_of() {
+    echo "goals of $1: $(($(took sh -c "bin/xanadu goals $2 || true") / 1000000)) ms"
+}
+
+if [ -x bin/xanadu ]; then
+    for functions in 250 500 1000; do
+        functions_of_loops $functions >bin/loops.xan
+        goals_of "$functions functions with a loop" bin/loops.xan
+    done
+    filled_with "fun main(): int { var v0 = 0;" "v0 = v0 + 1;" >bin/statements.xan
+    goals_of "a mebibyte of statements" bin/statements.xan
+    filled_with "fun main(): int { $(twenty_variables)" "if (v0 < v1) { v2 = v3 + 1; } else { v4 = v5; }" >bin/branches.xan
+    goals_of "a mebibyte of branches with 20 variables in scope, up to the limit of index variables" bin/branches.xan
+    filled_with "fun g(x: int): int { return x; } fun main(): int { var v0 = 0;" "v0 = g(v0);" >bin/calls.xan
+    goals_of "a mebibyte of calls, up to the limit of index variables" bin/calls.xan
+fi
 
 sh tools/bench_solver.sh
