@@ -1,6 +1,7 @@
 //! Runs of the whole compiler as rows of tables.
 
 mod goals;
+mod long;
 mod refusals;
 mod shapes;
 
