@@ -69,29 +69,29 @@ signature = record {
   result = ty.Int (variable_form 2);
 }
 
-abbrev table : List Packed
+abbrev pub table : List Packed
 table = int_cell ∷ bool_cell ∷ pair_type ∷ []
 
-abbrev site : Site
+abbrev pub site : Site
 site = record { table = table; sigs = signature ∷ []; fun = 0; own = signature }
 
-abbrev setting : Setting
+abbrev pub setting : Setting
 setting = record { table = table; sigs = signature ∷ []; own = signature }
 
-abbrev frame : Frame
+abbrev pub frame : Frame
 frame = record {
   types = pair ∷ [];
   results = kind.Int ∷ [];
   kinds = kind.Array 0 ∷ kind.Int ∷ kind.Bool ∷ kind.Named 2 ∷ kind.Int ∷ kind.Int ∷ kind.Array 0 ∷ [];
 }
 
-abbrev first_ctx : IndexContext
+abbrev pub first_ctx : IndexContext
 first_ctx = record { vars = 2; rows = variable_form 0 ∷ variable_form 1 ∷ [] }
 
-abbrev types : List (ℕ × Ty)
+abbrev pub types : List (ℕ × Ty)
 types = (0, ty.Array 0 (variable_form 0)) ∷ (1, ty.Int (variable_form 1)) ∷ (2, ty.Bool) ∷ (3, ty.Named 2) ∷ []
 
-abbrev before : State
+abbrev pub before : State
 before = record { ctx = first_ctx; types = types; naming = []; goals = []; notes = [] }
 
 -- ---- what is known behind a construct
@@ -102,7 +102,7 @@ pub record After : Type 0 where
   pub types : List (ℕ × Ty)
   pub asked : List (IndexContext × Linear)
 
-abbrev asked_of : List GoalAt → List (IndexContext × Linear)
+abbrev pub asked_of : List GoalAt → List (IndexContext × Linear)
 asked_of goals = map (λ g. (g.ctx, g.row)) goals
 
 abbrev of_walk : Walk State → Option After
@@ -113,7 +113,7 @@ abbrev if_unknown : Truth → IndexContext → Linear → List (IndexContext × 
 if_unknown true ctx row later = later
 if_unknown false ctx row later = (ctx, row) ∷ later
 
-unfoldable unknown : IndexContext → List Linear → List (IndexContext × Linear)
+unfoldable pub unknown : IndexContext → List Linear → List (IndexContext × Linear)
 unknown ctx [] = []
 unknown ctx (row ∷ rows) = if_unknown (knows ctx row) ctx row (unknown ctx rows)
 
@@ -122,7 +122,7 @@ abbrev keep : Truth → ℕ × Ty → List (ℕ × Ty) → List (ℕ × Ty)
 keep true entry others = entry ∷ others
 keep false entry others = others
 
-unfoldable of_variables : List (ℕ × Ty) → List (ℕ × Ty)
+unfoldable pub of_variables : List (ℕ × Ty) → List (ℕ × Ty)
 of_variables [] = []
 of_variables (entry ∷ others) = keep (nat_lt entry.0 7) entry (of_variables others)
 
@@ -136,7 +136,7 @@ goes (Branch c) read ruled = option_of (all_assuming (side false (Branch c) read
     option_of (Err e) = None
 goes _ read ruled = Some ruled.ctx
 
-abbrev read_types : Instruction → StateType → List Ty
+abbrev pub read_types : Instruction → StateType → List Ty
 read_types i state = listed (all_there (map (λ place. type_at place state.places) i.reads))
   where
     listed : {E : Type 0} → Result (List Ty) E → List Ty
@@ -177,7 +177,7 @@ code_after code = of_reached (reached code (record { state = state_of first_ctx 
 
 -- ---- both sides have the same, and there is something
 
-abbrev is_there : Option After → Truth
+abbrev pub is_there : Option After → Truth
 is_there None = false
 is_there (Some after) = true
 

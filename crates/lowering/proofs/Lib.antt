@@ -3,6 +3,7 @@ mod LoweredExamples
 mod LoweredRuns
 mod EachConstruct
 mod EachContext
+pub mod MeetingContexts
 pub mod CodeSizes
 pub mod StraightCode
 pub mod CodeTargets
