@@ -36,6 +36,61 @@ const UNPROVED: &[(&[u8], &[u8])] = &[
         b"fun main(x: int): int { if (0 < x) { print 7 / (x + x); } return 7 / x; }",
         b"goal 2: at 67: +1v0-1 >= 0: not proved\n",
     ),
+    // The lower bound of an index.
+    (
+        b"fun main{n: nat, k: int | k < n}(a: int[n], x: int(k)): int { return a[x]; }",
+        b"goal 1: at 70: +1v1+0 >= 0: not proved\n",
+    ),
+    // Its upper bound.
+    (
+        b"fun main{n: nat, k: nat}(a: int[n], x: int(k)): int { return a[x]; }",
+        b"goal 1: at 62: +1v0-1v1-1 >= 0: not proved\n",
+    ),
+    // That of a cell that is written.
+    (
+        b"fun main{n: nat, k: nat}(a: int[n], x: int(k)): int { a[x] = 1; return 0; }",
+        b"goal 1: at 55: +1v0-1v1-1 >= 0: not proved\n",
+    ),
+    // The divisor of a remainder.
+    (
+        b"fun main(x: int): int { return 7 % x; }",
+        b"goal 1: at 33: +1v0-1 >= 0: not proved\n",
+    ),
+    // A parameter of a call.
+    (
+        b"fun f{k: int | 0 < k}(x: int(k)): int { return x; }\nfun main(x: int): int { return f(x); }",
+        b"goal 1: at 83: +1v0-1 >= 0: not proved\n",
+    ),
+    // A part of a tuple.
+    (
+        b"type P = {p: int | 0 <= p} (int(p), int);\nfun main(x: int): int { let (p, q) = P(x, 1); return q; }",
+        b"goal 1: at 79: +1v0+0 >= 0: not proved\n",
+    ),
+    // The length of a new array.
+    (
+        b"fun main(x: int): int { var a = new int[x](0); return len(a); }",
+        b"goal 1: at 32: +1v0+0 >= 0: not proved\n",
+    ),
+    // A result.
+    (
+        b"fun f(x: int): {k: nat} int(k) { return x; }\nfun main(x: int): int { return f(x); }",
+        b"goal 1: at 33: +1v0+0 >= 0: not proved\n",
+    ),
+    // The way from a branch into a join.
+    (
+        b"fun main(x: int): int { var y = 0; if (x < 0) { y = x; } else { y = 1; } join {k: nat} (y: int(k)) return y; }",
+        b"goal 1: at 35: +1v0+0 >= 0: not proved\n",
+    ),
+    // The way into a loop.
+    (
+        b"fun main(x: int): int { var i = x; while (i < 9) with {k: nat} (i: int(k)) { i = i + 1; } return i; }",
+        b"goal 1: at 35: +1v0+0 >= 0: not proved\n",
+    ),
+    // The way back to its head.
+    (
+        b"fun main(): int { var i = 0; while (i < 9) with {k: nat} (i: int(k)) { i = i - 1; } return i; }",
+        b"goal 1: at 29: +1v0-1 >= 0: not proved\n",
+    ),
 ];
 
 #[test]
