@@ -37,8 +37,9 @@ pub fn tests_fare<L>()
         → Fares (λ truth (new : Run L). Goes site (side_state truth sides) env assignment run.store new.store) (holds call env test run) }
 {}
 
-/// So it is with an assignment to a variable of the function, with a split of a tuple into variables, with a store into a cell, with a call as a statement, with a print, and with a return, behind which the value
-/// has the type of the function's result, where the function's own index variables have the values that they had.
+/// So it is with an assignment to a variable of the function, with a split of a tuple into variables, with a store into a cell, with a call as a
+/// statement, with a print, and with a return, behind which the value has the type of the function's result, where the function's own index
+/// variables have the values that they had.
 pub fn simple_statements_fare<L>()
     ensures assignments { (site : Site) (recorder : Recorder L) (call : Calls L) (fun bound : ℕ) (place : Place) (env : Env) (st more : State)
         (assignment : List ℤ) (run : Run L) (x : ℕ) (e : core.Expr) → IsSetting (setting_of site) → CallsFare site.table site.sigs call
