@@ -115,3 +115,32 @@ if [ -x bin/xanadu ]; then
 fi
 
 sh tools/bench_solver.sh
+
+(cd crates/bench_machine && rt run -- 1000 >/dev/null)
+cp crates/bench_machine/out/bench_machine bin/
+TURNS=20000000
+STEPS_OF_A_TURN=5
+echo "machine: $((TURNS * STEPS_OF_A_TURN * 1000000000 / $(took bin/bench_machine $TURNS))) steps a second"
+
+# the same loop beside it, where wabt is there
+if command -v wasm-interp >/dev/null; then
+    WASM_TURNS=2000000
+    cat >bin/loop.wat <<END
+(module (func (export "main") (result i64) (local \$i i64) (local \$s i64)
+  (block \$out (loop \$top
+    (br_if \$out (i64.le_s (i64.const $WASM_TURNS) (local.get \$i)))
+    (local.set \$s (i64.add (local.get \$s) (local.get \$i)))
+    (local.set \$i (i64.add (local.get \$i) (i64.const 1)))
+    (br \$top)))
+  (local.get \$s)))
+END
+    wat2wasm bin/loop.wat -o bin/loop.wasm
+    echo "wasm-interp: $((WASM_TURNS * 1000000000 / $(took wasm-interp bin/loop.wasm --run-all-exports))) turns a second, the machine $((TURNS * 1000000000 / $(took bin/bench_machine $TURNS)))"
+fi
+
+# the machine takes no memory behind its loading: as many allocations for a short run as for a long one
+if command -v valgrind >/dev/null; then
+    for turns in 1000 100000; do
+        echo "$turns turns: $(valgrind bin/bench_machine $turns 2>&1 | grep -o '[0-9,]* allocs') in all"
+    done
+fi

@@ -1,4 +1,5 @@
-/* The sums of crates/bench_lines in a plain loop: rows of 65 words, each sum in 128 bits and tested against the bound. */
+/* The lines of crates/bench_lines in a plain loop over rows of 65 words: each sum in 128 bits and tested against the bound, each division by a
+   number that is known only when it runs, as a checker of lines has it. */
 #include <stdint.h>
 #include <stdio.h>
 #include <stdlib.h>
@@ -29,12 +30,12 @@ static int cut(int64_t *row, const int64_t *a, int64_t by) {
     return 1;
 }
 
-static int check(int64_t *rows, uint32_t lines, int cuts) {
+static int check(int64_t *rows, uint32_t lines, int cuts, int64_t by) {
     memset(rows, 0, 2 * WIDTH * sizeof *rows);
     rows[0] = 1, rows[1] = -1, rows[WIDTH] = -1, rows[WIDTH + 1] = 1;
     for (uint32_t line = cuts ? 1 : 2; line + 1 < lines; line++) {
         int64_t *row = rows + (size_t)line * WIDTH, *before = row - WIDTH;
-        if (cuts ? !cut(row, before, 1) : !comb(row, before, 1, rows + (line % 2) * WIDTH, 1)) return 0;
+        if (cuts ? !cut(row, before, by) : !comb(row, before, by, rows + (line % 2) * WIDTH, by)) return 0;
     }
     int64_t *last = rows + (size_t)(lines - 1) * WIDTH;
     memset(last, 0, WIDTH * sizeof *last);
@@ -47,9 +48,9 @@ static int check(int64_t *rows, uint32_t lines, int cuts) {
 int main(int argc, char **argv) {
     if (argc != 4) return 2;
     uint32_t lines = (uint32_t)strtoul(argv[2], 0, 10), times = (uint32_t)strtoul(argv[3], 0, 10), accepted = 0;
-    int64_t *rows = malloc((size_t)lines * WIDTH * sizeof *rows);
+    int64_t by = argc - 3, *rows = malloc((size_t)lines * WIDTH * sizeof *rows);
     if (!rows) return 6;
-    for (uint32_t i = 0; i < times; i++) accepted += (uint32_t)check(rows, lines, strcmp(argv[1], "cuts") == 0);
+    for (uint32_t i = 0; i < times; i++) accepted += (uint32_t)check(rows, lines, strcmp(argv[1], "cuts") == 0, by);
     printf("%u lines accepted %u times\n", lines, accepted);
     free(rows);
     return 0;

@@ -6,3 +6,5 @@ pub mod Declared
 pub mod JoinFailures
 pub mod BlockParts
 pub mod BlockSizes
+pub mod Marks
+pub mod RenewedMarks

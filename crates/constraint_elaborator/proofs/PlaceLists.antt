@@ -38,7 +38,7 @@ renewed-rises changed vars first [] made r = subst (λ xs. PlacesRise 0 xs) (app
 renewed-rises changed vars first (e ∷ es) made r =
     renewed-rises changed vars first es (with_entry (is_renewed changed vars e) first e made) (entry-rises (is_renewed changed vars e) first e es made r)
 
-few_by : (b : Truth) (place low most : ℕ) → nat_lt most (suc place) ≡ b → (let r : Walk (Unit {0}) = cond b (Err (Past limit.Places)) (Ok tt) in r) ≡ Ok tt → place < most
+pub few_by : (b : Truth) (place low most : ℕ) → nat_lt most (suc place) ≡ b → (let r : Walk (Unit {0}) = cond b (Err (Past limit.Places)) (Ok tt) in r) ≡ Ok tt → place < most
 few_by true place low most e h = absurd (let bad : ⊥ = cc in bad)
 few_by false place low most e h = (let le = is_not_less most (suc place) e in omega (arith, le))
 

@@ -1,12 +1,15 @@
-//! Which variables a block changes: it assigns them, or a clause within it gives them another type.
+//! Which variables a block changes: it assigns them, or a clause within it gives them another type. One walk marks them all.
 
 ghost use Rattle.std.specs.Prelude.{◌≡◌, ◌==◌};
 ghost use Rattle.std.specs.List.{list_any};
-ghost use Rattle.constraint_elaborator.specs.Changed.{changed_by};
+ghost use Rattle.constraint_elaborator.specs.Changed.{changed_by, is_marked, marked, no_marks};
 ghost use Rattle.typed_core.specs.Joins as spec;
 ghost use Rattle.xanadu_tree.specs.PlainOf.{plain_block, plain_stmt};
 
 use xanadu_tree::{Clause, CoreStmt, CoreTy};
+
+/// How many places a function has at most.
+const MOST_PLACES: usize = 240;
 
 /// The blocks behind which a state is joined: the body of a loop, or both branches.
 #[derive(Clone, Copy, Drop)]
@@ -15,19 +18,6 @@ pub(crate) enum Blocks<'a> {
     Body(&'a [CoreStmt]),
     /// The branches of an `if`.
     Branches(&'a [CoreStmt], &'a [CoreStmt]),
-}
-
-/// Whether the variable is among these.
-fn is_among(x: u32, mut xs: &[u32]) -> bool
-    ensures { result ≡ list_any (λ y. y == x) xs.entry.now }
-{
-    while let [y, later @ ..] = xs {
-        if *y == x {
-            return true;
-        }
-        xs = later;
-    }
-    false
 }
 
 /// Whether a type of the variable is stated.
@@ -43,66 +33,109 @@ pub(crate) fn is_named(x: u32, mut stated: &[(u32, CoreTy)]) -> bool
     false
 }
 
-/// Whether the clause names the variable.
-fn names(clause: &Option<Clause>, x: u32) -> bool
-    ensures { result ≡ spec.names clause.now x }
+/// Marks the variable, where it has a place.
+#[tactic(auto, using(crate::proofs::Marks::marked_one, crate::proofs::Marks::marked_past))]
+fn mark(x: u32, marks: &mut [bool])
+    ensures { marks.new ≡ marked (λ y. x == y) 0 marks.old }
 {
-    match clause {
-        Some(clause) => is_named(x, clause.vars.as_slice()),
-        None => false,
+    let place = x as usize;
+    if place < marks.len() {
+        marks[place] = true;
     }
 }
 
-/// Whether the statement changes the variable.
-#[cycle(changes)]
-#[tactic(auto, using(xanadu_tree::proofs::Equations::plain_trees), unfolding(typed_core::specs::Joins::changes))]
-fn changes(statement: &CoreStmt, x: u32) -> bool
-    ensures { result ≡ spec.changes (plain_stmt statement.now) x }
+/// Marks these variables.
+fn mark_all(mut xs: &[u32], marks: &mut [bool])
+    ensures { marks.new ≡ marked (λ y. list_any (λ x. x == y) xs.entry.now) 0 marks.old }
+{
+    while let [x, later @ ..] = xs {
+        mark(*x, marks);
+        xs = later;
+    }
+}
+
+/// Marks those of which a type is stated.
+fn mark_stated(stated: &[(u32, CoreTy)], marks: &mut [bool])
+    ensures { marks.new ≡ marked (λ y. spec.is_named y stated.now) 0 marks.old }
+{
+    for one in stated {
+        mark(one.0, marks);
+    }
+}
+
+/// Marks those that the clause names.
+#[tactic(auto, using(crate::proofs::Marks::no_clause_marked))]
+fn mark_clause(clause: &Option<Clause>, marks: &mut [bool])
+    ensures { marks.new ≡ marked (spec.names clause.now) 0 marks.old }
+{
+    if let Some(clause) = clause {
+        mark_stated(clause.vars.as_slice(), marks);
+    }
+}
+
+/// Marks those that the statement changes.
+#[cycle(marks)]
+#[tactic(auto, using(xanadu_tree::proofs::Equations::plain_trees, crate::proofs::Marks::set_marked, crate::proofs::Marks::split_marked, crate::proofs::Marks::store_marked, crate::proofs::Marks::do_marked, crate::proofs::Marks::print_marked, crate::proofs::Marks::return_marked, crate::proofs::Marks::if_marked, crate::proofs::Marks::while_marked))]
+fn mark_changes(statement: &CoreStmt, marks: &mut [bool])
+    ensures { marks.new ≡ marked (spec.changes (plain_stmt statement.now)) 0 marks.old }
 {
     match statement {
-        CoreStmt::Set(y, _) => *y == x,
-        CoreStmt::Split(ys, _, _) => is_among(x, ys.as_slice()),
+        CoreStmt::Set(x, _) => mark(*x, marks),
+        CoreStmt::Split(xs, _, _) => mark_all(xs.as_slice(), marks),
         CoreStmt::Store(_, _, _, _)
         | CoreStmt::Do(_)
         | CoreStmt::Print(_)
-        | CoreStmt::Return(_, _) => false,
+        | CoreStmt::Return(_, _) => {}
         CoreStmt::If {
             on_true,
             on_false,
             join,
             ..
         } => {
-            let one = changes_any(on_true, x);
-            let two = changes_any(on_false, x);
-            one || two || names(join, x)
+            mark_block(on_true, marks);
+            mark_block(on_false, marks);
+            mark_clause(join, marks);
         }
         CoreStmt::While { head, body, .. } => {
-            let inner = changes_any(body, x);
-            names(head, x) || inner
+            mark_clause(head, marks);
+            mark_block(body, marks);
         }
     }
 }
 
-/// Whether a statement of the block does.
-#[cycle(changes)]
-#[tactic(auto, using(xanadu_tree::proofs::Equations::plain_trees), unfolding(typed_core::specs::Joins::changes_any))]
-fn changes_any(block: &[CoreStmt], x: u32) -> bool
-    ensures { result ≡ spec.changes_any (plain_block block.now) x }
+/// Marks those that a statement of the block changes.
+#[cycle(marks)]
+#[tactic(auto, using(xanadu_tree::proofs::Equations::plain_trees, crate::proofs::Marks::rest_marked, crate::proofs::Marks::block_done))]
+fn mark_block(block: &[CoreStmt], marks: &mut [bool])
+    ensures { marks.new ≡ marked (spec.changes_any (plain_block block.now)) 0 marks.old }
 {
     for statement in block {
-        if changes(statement, x) {
-            return true;
-        }
+        mark_changes(statement, marks);
     }
-    false
 }
 
-/// Whether one of the blocks changes the variable.
-pub(crate) fn is_changed(blocks: &Blocks<'_>, x: u32) -> bool
-    ensures { result ≡ changed_by blocks.now x }
+/// The marks of those that the blocks change.
+#[tactic(auto, using(crate::proofs::Marks::branches_marked))]
+pub(crate) fn marks_of(blocks: &Blocks<'_>) -> [bool; MOST_PLACES]
+    ensures { result ≡ marked (changed_by blocks.now) 0 no_marks }
 {
+    let mut marks = [false; MOST_PLACES];
     match blocks {
-        Blocks::Body(body) => changes_any(body, x),
-        Blocks::Branches(one, two) => changes_any(one, x) || changes_any(two, x),
+        Blocks::Body(body) => mark_block(body, &mut marks),
+        Blocks::Branches(one, two) => {
+            mark_block(one, &mut marks);
+            mark_block(two, &mut marks);
+        }
+    }
+    marks
+}
+
+/// Whether the variable of the place is marked.
+pub(crate) fn has_mark(marks: &[bool], place: u16) -> bool
+    ensures { result ≡ is_marked marks.now place }
+{
+    match marks.get(place as usize) {
+        Some(mark) => *mark,
+        None => false,
     }
 }

@@ -41,7 +41,7 @@ fn present(alloc: Global, places: &Places, mut wanted: &[(u16, Ty)]) -> Result<V
 {
     let mut types = Vec::new(alloc);
     while let [one, later @ ..] = wanted {
-        types.push(type_of(u32::from(one.0), places.entries())?)?;
+        types.push(type_of(u32::from(one.0), places)?)?;
         wanted = later;
     }
     Ok(types)
@@ -73,7 +73,7 @@ fn within_bounds(past: Option<TooLarge>) -> Result<(), Stop>
 fn index_at(places: &Places, x: u32) -> Result<Form, Stop>
     ensures { Gives (λ form. form) result (spec.index_at places.now x) }
 {
-    let ty = type_of(x, places.entries())?;
+    let ty = type_of(x, places)?;
     match index_of(&ty) {
         Some(index) => Ok(index.copy()),
         None => Err(Stop::Misfit),

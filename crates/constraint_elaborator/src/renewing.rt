@@ -1,7 +1,7 @@
 //! The types that were known before, where changed variables have fresh indices.
 
-ghost use Rattle.std.specs.Prelude.{◌≡◌, ◌+◌, ◌≤◌, [], true, false, length, IfErr, IfOk};
-ghost use Rattle.constraint_elaborator.specs.Changed.{changed_by};
+ghost use Rattle.std.specs.Prelude.{◌≡◌, ◌+◌, ◌≤◌, [], true, false, length, IfErr, IfOk, Ok};
+ghost use Rattle.constraint_elaborator.specs.Changed.{changed_by, is_marked};
 ghost use Rattle.expression_elaborator.specs.Code.{Gives};
 ghost use Rattle.expression_elaborator.specs.Views.{state_of};
 ghost use Rattle.constraint_elaborator.specs.JoinViews.{IsMany, renewed_of};
@@ -9,7 +9,7 @@ ghost use Rattle.state_types.specs.PlaceTypes.{PlacesRise};
 ghost use Rattle.typed_core.specs.Joins as spec;
 ghost use Rattle.typed_core.specs.States as states;
 
-use crate::changes::{Blocks, is_changed, is_named};
+use crate::changes::{Blocks, has_mark, is_named, marks_of};
 use crate::clauses::{count_of, stated_of};
 use expression_elaborator::{Failure, State, Stop, has_index, place_of, with_index};
 use state_types::{StateType, Ty};
@@ -36,12 +36,11 @@ fn few_places(mut entries: &[(u16, Ty)]) -> Result<(), Stop>
     Ok(())
 }
 
-/// Whether the clause says nothing of the variable, a block changes it, and its type has an index.
-fn is_renewed(blocks: &Blocks<'_>, stated: &[(u32, CoreTy)], entry: &(u16, Ty)) -> bool
-    ensures { result ≡ spec.is_renewed (changed_by blocks.now) stated.now entry.now }
+/// Whether the clause says nothing of the variable, it is marked as changed, and its type has an index.
+fn is_renewed(marks: &[bool], stated: &[(u32, CoreTy)], entry: &(u16, Ty)) -> bool
+    ensures { result ≡ spec.is_renewed (is_marked marks.now) stated.now entry.now }
 {
-    let x = u32::from(entry.0);
-    has_index(&entry.1) && is_changed(blocks, x) && !is_named(x, stated)
+    has_index(&entry.1) && has_mark(marks, entry.0) && !is_named(u32::from(entry.0), stated)
 }
 
 impl Renewed {
@@ -66,11 +65,11 @@ impl Renewed {
     }
 }
 
-/// The types before, where each variable that is changed, and of which the clause says nothing, has a fresh index.
+/// The types before, where each variable that is marked, and of which the clause says nothing, has a fresh index.
 #[tactic(auto, unfolding(typed_core::specs::Joins::renewed))]
-fn renew_all(
+fn renew_marked(
     alloc: Global,
-    blocks: &Blocks<'_>,
+    marks: &[bool],
     stated: &[(u32, CoreTy)],
     first: u32,
     mut entries: &[(u16, Ty)],
@@ -78,14 +77,14 @@ fn renew_all(
     requires few { length entries.now ≤ 240 }
     requires first { first ≤ 2048 }
     ensures { IfOk result (λ made.
-        renewed_of made ≡ spec.renewed (changed_by blocks.now) stated.now first entries.entry.now (record { types = []; others = [] })) }
+        renewed_of made ≡ spec.renewed (is_marked marks.now) stated.now first entries.entry.now (record { types = []; others = [] })) }
 {
     let mut made = Renewed {
         types: Vec::new(alloc),
         others: Vec::new(alloc),
     };
     while let [entry, later @ ..] = entries {
-        if is_renewed(blocks, stated, entry) {
+        if is_renewed(marks, stated, entry) {
             made.renew(first, entry)?;
         } else {
             made.keep(entry)?;
@@ -93,6 +92,25 @@ fn renew_all(
         entries = later;
     }
     Ok(made)
+}
+
+/// The same for variables that have places, where the blocks change them.
+#[tactic(auto, using(crate::proofs::RenewedMarks::renewed_by_marks))]
+fn renew_all(
+    alloc: Global,
+    blocks: &Blocks<'_>,
+    stated: &[(u32, CoreTy)],
+    first: u32,
+    entries: &[(u16, Ty)],
+) -> Result<Renewed, Failure>
+    requires few { length entries.now ≤ 240 }
+    requires placed { spec.few_places entries.now ≡ Ok tt }
+    requires first { first ≤ 2048 }
+    ensures { IfOk result (λ made.
+        renewed_of made ≡ spec.renewed (changed_by blocks.now) stated.now first entries.now (record { types = []; others = [] })) }
+{
+    let marks = marks_of(blocks);
+    renew_marked(alloc, &marks, stated, first, entries)
 }
 
 /// So many variables, and one for each other variable, are fresh.

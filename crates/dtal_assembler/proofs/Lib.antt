@@ -1,3 +1,3 @@
 mod WordLists
 mod LabelTables
-mod Sizes
+mod AcceptedSizes

@@ -7,7 +7,7 @@ use Rattle.dtal_code.specs.declared.op.Op.{Op}
 use Rattle.dtal_code.specs.declared.op.Op.TheVariants.{Li, Mv, Add, Sub, Ret, Print}
 use Rattle.dtal_code.specs.Machine.{Activation, State, Off, step}
 use Rattle.dtal_code.specs.Entry.{places_of, arg_words, first_state}
-use Rattle.dtal_code.proofs.Steps.{Goes, goes-quiet, goes-printing, step-li, step-mv, step-add, step-add_overflow, step-sub, step-sub_overflow, step-print, step-ret_first}
+use Rattle.dtal_code.proofs.StraightSteps.{Goes, goes-quiet, goes-printing, step-li, step-mv, step-add, step-add_overflow, step-sub, step-sub_overflow, step-print, step-ret_first}
 
 abbrev pub first_activation : ℕ → List ℤ → Activation
 first_activation at places = record { at = at; places = places; result_to = None }

@@ -1,9 +1,9 @@
-pub mod Steps
-pub mod Arguments
+pub mod StraightSteps
+pub mod EntryArguments
 pub mod Alone
 mod Parts
-mod Spelling
-mod Examples
+mod StraightTexts
+mod StraightRuns
 pub mod VerifiedPrograms
 pub mod ObjectRuns
 pub mod ArraySums
@@ -11,4 +11,4 @@ pub mod ArraySumText
 mod CodeRuns
 pub mod Appended
 mod WordBytes
-mod Codings
+pub mod Codings

@@ -15,7 +15,6 @@ pub mod ObjectCode
 pub mod Running
 pub mod Runs
 pub mod Safety
-pub mod Fitting
 pub mod ObjectWords
 pub mod Printed
 pub mod Guessed

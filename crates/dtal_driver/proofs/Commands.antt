@@ -19,44 +19,88 @@ use Rattle.dtal_machine.specs.declared.loading.LoadError.TheVariants as load
 use Rattle.dtal_machine.specs.Loading.{fault_error, begins, loaded, IsRunOf}
 use Rattle.dtal_machine.specs.Steps.{Loaded, run_on}
 use Rattle.dtal_machine.specs.Typing.{IsAccepted}
-use Rattle.dtal_machine.specs.declared.refusal.Where.{Where}
-use Rattle.dtal_machine.specs.declared.refusal.Rule.{Rule}
-use Rattle.dtal_machine.proofs.Driving.{run-begins, run-live}
+use Rattle.dtal_code.specs.declared.program.DtalProgram.{DtalProgram}
+use Rattle.dtal_code.specs.declared.refusal.Where.{Where}
+use Rattle.dtal_code.specs.declared.refusal.Rule.{Rule}
+use Rattle.dtal_code.proofs.VerifiedPrograms.{accepted_is_verified}
+use Rattle.dtal_machine.proofs.MachineSteps.{run-begins, run-live}
 use Rattle.dtal_machine.proofs.Runs.{accepted-ends}
 use Rattle.dtal_driver.specs.declared.answer.Answer.{Answer}
 use Rattle.dtal_driver.specs.declared.answer.Answer.TheVariants as answer
 use Rattle.dtal_driver.specs.declared.run.End.{End}
 use Rattle.dtal_driver.specs.declared.run.End.TheVariants as ends
 use Rattle.dtal_driver.specs.Answers.{line_of, number_lines}
-use Rattle.dtal_driver.specs.Causes.{Accepts, IsRefusedText, Refuses, IsLoaded, HasFault, IsFaulty, IsLoadedFrom, IsOfText, Cause, NoCommand, ReadFailed, Memory, Told, Says, Went, RunSaid}
+use Rattle.dtal_driver.specs.Causes.{IsRefusedProgram, IsVerified, IsDenied, Accepts, IsRefusedText, Refuses, IsLoaded, HasFault, IsFaulty, IsLoadedFrom, IsOfText, Cause, NoCommand, ReadFailed, Memory, Told, Says, Went, RunSaid}
 use Rattle.dtal_driver.specs.Report.{Report, plain, heap, depth, steps, end_of, how_of, answer_of, ended, unless_refused, fault_answer, run_report, accepted_report, ReportsOf}
+use Rattle.dtal_driver.specs.Stops.{rule_of}
+use Rattle.dtal_driver.specs.VerifiedTexts.{accepted_answer, judged, Judges, TooLong, NoProgram, OfProgram}
 use Rattle.dtal_driver.specs.Words.{Meant, Verify, Run, text_of}
 
--- ---- a text
+-- ---- a text that is verified
 
-of_refused : (command : Meant) (bytes : List ℕ) (at : Where) (rule : Rule) → IsRefusedText bytes at rule → ReportsOf command bytes (plain (answer.Refused at rule))
-of_refused command bytes at rule r = record {
+module _ (content : List ℕ → Option (List ℕ)) (text : List ℕ) (reads reads' : List ℕ → ℕ) where
+  -- what is said of its bytes
+  judges-cause : (said : Answer) → IsOfText said → ((bytes : List ℕ) → content text ≡ Some bytes → Judges bytes said) → Cause (Some (Verify text)) content reads reads' (plain said)
+  judges-cause said of_text judges = Told (record {
+    command = Verify text;
+    is = refl;
+    of_text = of_text;
+    told = λ bytes here. record { said = said; judges = judges bytes here; is = refl };
+  })
+
+  of_denied : (bytes : List ℕ) (at : Where) (rule : Rule) → IsRefusedProgram bytes at rule → Judges bytes (answer.Refused at rule)
+  of_denied bytes at rule r = OfProgram r.text.short r.program r.text.spells (sym (ap (judged r.program) r.refused))
+
+  -- an answer in place of an accepted program
+  pub denied-cause : (said : Answer) → IsDenied (content text) (reads text) (reads' text) said → Cause (Some (Verify text)) content reads reads' (plain said)
+  denied-cause answer.ReadFailed r = ReadFailed (record { command = Verify text; is = refl; rose = r }) refl
+  denied-cause answer.Memory r = Memory refl
+  denied-cause answer.TooLong r = judges-cause answer.TooLong tt (λ bytes here. TooLong (r bytes here) refl)
+  denied-cause (answer.NoProgram at) r = judges-cause (answer.NoProgram at) tt (λ bytes here. (let none = r bytes here in NoProgram none.short at none.longest refl))
+  denied-cause (answer.Refused at rule) r = judges-cause (answer.Refused at rule) tt (λ bytes here. of_denied bytes at rule (r bytes here))
+  denied-cause answer.NotBuilt r = absurd r
+  denied-cause answer.NoCommand r = absurd r
+  denied-cause (answer.Accepted f n) r = absurd r
+  denied-cause answer.ArgCount r = absurd r
+  denied-cause (answer.ArgKind n) r = absurd r
+  denied-cause (answer.ArgIndex n) r = absurd r
+  denied-cause (answer.EntryRow n) r = absurd r
+  denied-cause (answer.Returned word) r = absurd r
+  denied-cause answer.Overflow r = absurd r
+
+  pub verified-cause : (program : DtalProgram) (said : Answer) → IsVerified (content text) program → said ≡ accepted_answer program → Cause (Some (Verify text)) content reads reads' (plain said)
+  verified-cause program said v is =
+      judges-cause said (subst IsOfText (sym is) tt)
+      (λ bytes here. (let t = v.told bytes here in OfProgram t.short program t.spells (is ∙ sym (ap (judged program) (accepted_is_verified program v.accepted)))))
+
+-- ---- a straight text
+
+of_refused : (args : List Arg) (bytes : List ℕ) (at : Where) (rule : Rule) → IsRefusedText bytes at rule → ReportsOf args bytes (plain (answer.Refused at rule))
+of_refused args bytes at rule r = record {
   program = r.program;
   text = r.text;
-  is = ap (λ refused. unless_refused refused (accepted_report command r.program)) r.refused;
+  is = ap (λ refused. unless_refused refused (accepted_report args r.program)) r.refused
+      ∙ ap (λ (place : Where). Some (plain (answer.Refused place (rule_of r.broken)))) (sym r.at_is) ∙ ap (λ (broken : Rule). Some (plain (answer.Refused at broken))) (sym r.rule_is);
 }
 
 -- an answer in place of an accepted program
-pub refuses-cause : (command : Meant) (content : List ℕ → Option (List ℕ)) (reads reads' : List ℕ → ℕ) (said : Answer)
-    → Refuses (content (text_of command)) (reads (text_of command)) (reads' (text_of command)) said → Cause (Some command) content reads reads' (plain said)
-refuses-cause command content reads reads' answer.ReadFailed r = ReadFailed (record { command = command; is = refl; rose = r }) refl
-refuses-cause command content reads reads' answer.Memory r = Memory refl
-refuses-cause command content reads reads' answer.NotBuilt r = Told (record { command = command; is = refl; of_text = tt; told = λ bytes here. inl (r bytes here, refl) })
-refuses-cause command content reads reads' (answer.Refused at rule) r =
-    Told (record { command = command; is = refl; of_text = tt; told = λ bytes here. inr (of_refused command bytes at rule (r bytes here)) })
-refuses-cause command content reads reads' answer.NoCommand r = absurd r
-refuses-cause command content reads reads' (answer.Accepted n) r = absurd r
-refuses-cause command content reads reads' answer.ArgCount r = absurd r
-refuses-cause command content reads reads' (answer.ArgKind n) r = absurd r
-refuses-cause command content reads reads' (answer.ArgIndex n) r = absurd r
-refuses-cause command content reads reads' (answer.EntryRow n) r = absurd r
-refuses-cause command content reads reads' (answer.Returned word) r = absurd r
-refuses-cause command content reads reads' answer.Overflow r = absurd r
+module _ (text : List ℕ) (args : List Arg) (content : List ℕ → Option (List ℕ)) (reads reads' : List ℕ → ℕ) where
+  pub refuses-cause : (said : Answer) → Refuses (content text) (reads text) (reads' text) said → Cause (Some (Run text args)) content reads reads' (plain said)
+  refuses-cause answer.ReadFailed r = ReadFailed (record { command = Run text args; is = refl; rose = r }) refl
+  refuses-cause answer.Memory r = Memory refl
+  refuses-cause answer.NotBuilt r = Told (record { command = Run text args; is = refl; of_text = tt; told = λ bytes here. inl (r bytes here, refl) })
+  refuses-cause (answer.Refused at rule) r =
+      Told (record { command = Run text args; is = refl; of_text = tt; told = λ bytes here. inr (of_refused args bytes at rule (r bytes here)) })
+  refuses-cause answer.TooLong r = absurd r
+  refuses-cause (answer.NoProgram at) r = absurd r
+  refuses-cause answer.NoCommand r = absurd r
+  refuses-cause (answer.Accepted f n) r = absurd r
+  refuses-cause answer.ArgCount r = absurd r
+  refuses-cause (answer.ArgKind n) r = absurd r
+  refuses-cause (answer.ArgIndex n) r = absurd r
+  refuses-cause (answer.EntryRow n) r = absurd r
+  refuses-cause (answer.Returned word) r = absurd r
+  refuses-cause answer.Overflow r = absurd r
 
 fault-of_text : (fault : EntryFault) → IsOfText (fault_answer fault)
 fault-of_text fault.ArgCount = tt
@@ -66,25 +110,14 @@ fault-of_text (fault.EntryRow row) = tt
 
 module _ (content : List ℕ → Option (List ℕ)) (text : List ℕ) (program : Straight) (accepts : Accepts (content text) program) where
   -- the report of an accepted program is that of its text
-  of_accepted : (command : Meant) (bytes : List ℕ) (report : Report) → content text ≡ Some bytes → accepted_report command program ≡ Some report
-      → ReportsOf command bytes report
-  of_accepted command bytes report here is =
+  of_accepted : (args : List Arg) (bytes : List ℕ) (report : Report) → content text ≡ Some bytes → accepted_report args program ≡ Some report → ReportsOf args bytes report
+  of_accepted args bytes report here is =
       let a = accepts.told bytes here in
       record {
         program = program;
         text = a.text;
-        is = ap (λ refused. unless_refused refused (accepted_report command program)) a.not_refused ∙ is;
+        is = ap (λ refused. unless_refused refused (accepted_report args program)) a.not_refused ∙ is;
       }
-
-  pub verified-cause : (reads reads' : List ℕ → ℕ) (instructions : ℕ) → instructions ≡ length program.code
-      → Cause (Some (Verify text)) content reads reads' (plain (answer.Accepted instructions))
-  verified-cause reads reads' instructions counted = Told (record {
-    command = Verify text;
-    is = refl;
-    of_text = tt;
-    told = λ bytes here.
-        inr (of_accepted (Verify text) bytes (plain (answer.Accepted instructions)) here (ap (λ n. Some (plain (answer.Accepted n))) (sym counted)));
-  })
 
   module _ (args : List Arg) where
     pub faulty-cause : (reads reads' : List ℕ → ℕ) (said : Answer) → IsFaulty program args said → Cause (Some (Run text args)) content reads reads' (plain said)
@@ -94,7 +127,7 @@ module _ (content : List ℕ → Option (List ℕ)) (text : List ℕ) (program :
       is = refl;
       of_text = subst IsOfText (sym fault.is) (fault-of_text fault.fault);
       told = λ bytes here.
-          inr (of_accepted (Run text args) bytes (plain said) here (ap (run_report program.code) fault.found ∙ ap (λ a. Some (plain a)) (sym fault.is)));
+          inr (of_accepted args bytes (plain said) here (ap (run_report program.code) fault.found ∙ ap (λ a. Some (plain a)) (sym fault.is)));
     })
 
     pub loaded-from : (machine : Loaded) → IsLoaded program args machine → IsLoadedFrom text args (content text) machine
@@ -103,7 +136,7 @@ module _ (content : List ℕ → Option (List ℕ)) (text : List ℕ) (program :
       ends = loads.ends;
       told = λ bytes here report is.
           inr
-          (of_accepted (Run text args) bytes report here
+          (of_accepted args bytes report here
           (ap (run_report program.code) loads.run.begins ∙ ap ended loads.run.is ∙ is));
     }
 

@@ -1,7 +1,8 @@
-pub mod Arguments
+pub mod ArgumentWords
 pub mod Commands
+pub mod InstructionCounts
 pub mod LineParts
 pub mod Promises
 pub mod Reports
-pub mod Running
+pub mod MachineRuns
 pub mod Statuses

@@ -24,7 +24,9 @@ status_of-is answer.ReadFailed = refl
 status_of-is answer.Memory = refl
 status_of-is answer.NotBuilt = refl
 status_of-is (answer.Refused at rule) = refl
-status_of-is (answer.Accepted n) = refl
+status_of-is (answer.Accepted f n) = refl
+status_of-is answer.TooLong = refl
+status_of-is (answer.NoProgram at) = refl
 status_of-is answer.ArgCount = refl
 status_of-is (answer.ArgKind n) = refl
 status_of-is (answer.ArgIndex n) = refl
@@ -39,7 +41,9 @@ not_four answer.ReadFailed e = omega (arith, e)
 not_four answer.Memory e = omega (arith, e)
 not_four answer.NotBuilt e = omega (arith, e)
 not_four (answer.Refused at rule) e = omega (arith, e)
-not_four (answer.Accepted n) e = omega (arith, e)
+not_four (answer.Accepted f n) e = omega (arith, e)
+not_four answer.TooLong e = omega (arith, e)
+not_four (answer.NoProgram at) e = omega (arith, e)
 not_four answer.ArgCount e = omega (arith, e)
 not_four (answer.ArgKind n) e = omega (arith, e)
 not_four (answer.ArgIndex n) e = omega (arith, e)
@@ -59,7 +63,9 @@ of_text-apart answer.ReadFailed is = absurd is
 of_text-apart answer.Memory is = absurd is
 of_text-apart answer.NotBuilt is = record { two = λ e. omega (arith, e); three = λ e. omega (arith, e); six = λ e. omega (arith, e) }
 of_text-apart (answer.Refused at rule) is = record { two = λ e. omega (arith, e); three = λ e. omega (arith, e); six = λ e. omega (arith, e) }
-of_text-apart (answer.Accepted n) is = record { two = λ e. omega (arith, e); three = λ e. omega (arith, e); six = λ e. omega (arith, e) }
+of_text-apart (answer.Accepted f n) is = record { two = λ e. omega (arith, e); three = λ e. omega (arith, e); six = λ e. omega (arith, e) }
+of_text-apart answer.TooLong is = record { two = λ e. omega (arith, e); three = λ e. omega (arith, e); six = λ e. omega (arith, e) }
+of_text-apart (answer.NoProgram at) is = record { two = λ e. omega (arith, e); three = λ e. omega (arith, e); six = λ e. omega (arith, e) }
 of_text-apart answer.ArgCount is = record { two = λ e. omega (arith, e); three = λ e. omega (arith, e); six = λ e. omega (arith, e) }
 of_text-apart (answer.ArgKind n) is = record { two = λ e. omega (arith, e); three = λ e. omega (arith, e); six = λ e. omega (arith, e) }
 of_text-apart (answer.ArgIndex n) is = record { two = λ e. omega (arith, e); three = λ e. omega (arith, e); six = λ e. omega (arith, e) }

@@ -1,19 +1,21 @@
 -- What each answer of the program says: a status, and a line on the output.
 use Rattle.std.specs.Prelude.{ℕ, ℤ, List, [], ◌∷◌, ◌++◌, codes, decimal}
-use Rattle.dtal_machine.specs.declared.refusal.Where.{Where}
-use Rattle.dtal_machine.specs.declared.refusal.Where.TheVariants as place
-use Rattle.dtal_machine.specs.declared.refusal.Rule.{Rule}
-use Rattle.dtal_machine.specs.declared.refusal.Rule.TheVariants as rules
+use Rattle.dtal_code.specs.declared.refusal.Where.{Where}
+use Rattle.dtal_code.specs.declared.refusal.Where.TheVariants as place
+use Rattle.dtal_code.specs.declared.refusal.Rule.{Rule}
+use Rattle.dtal_code.specs.declared.refusal.Rule.TheVariants as rules
 use Rattle.xan_io.specs.Lines.{number_line}
 use Rattle.dtal_driver.specs.declared.answer.Answer.{Answer}
-use Rattle.dtal_driver.specs.declared.answer.Answer.TheVariants.{NoCommand, ReadFailed, Memory, NotBuilt, Refused, Accepted, ArgCount, ArgKind, ArgIndex, EntryRow, Returned, Overflow}
+use Rattle.dtal_driver.specs.declared.answer.Answer.TheVariants.{NoCommand, ReadFailed, Memory, TooLong, NoProgram, NotBuilt, Refused, Accepted, ArgCount, ArgKind, ArgIndex, EntryRow, Returned, Overflow}
 
 abbrev pub status_of : Answer → ℕ
-status_of (Accepted _) = 0
+status_of (Accepted _ _) = 0
 status_of (Returned _) = 0
 status_of NoCommand = 2
 status_of ReadFailed = 3
+status_of TooLong = 5
 status_of Memory = 6
+status_of (NoProgram _) = 7
 status_of (Refused _ _) = 11
 status_of ArgCount = 12
 status_of (ArgKind _) = 12
@@ -61,16 +63,18 @@ rule_name rules.Lines = codes "lines"
 abbrev pub refused_line : Where → Rule → List ℕ
 refused_line at rule = (codes "refused: " ++ where_text at) ++ (codes ": rule " ++ rule_name rule ++ codes "\n")
 
-abbrev pub accepted_line : ℕ → List ℕ
-accepted_line instructions = numbered (codes "accepted: 1 functions, ") instructions ++ codes " instructions\n"
+abbrev pub accepted_line : (functions instructions : ℕ) → List ℕ
+accepted_line functions instructions = (numbered (codes "accepted: ") functions ++ numbered (codes " functions, ") instructions) ++ codes " instructions\n"
 
 abbrev pub line_of : Answer → List ℕ
 line_of NoCommand = codes "words: not a command\n"
 line_of ReadFailed = codes "read: failed\n"
 line_of Memory = codes "memory\n"
+line_of TooLong = codes "limit: length 1099511627776\n"
+line_of (NoProgram at) = numbered_line (codes "text: at ") at
 line_of NotBuilt = codes "not built yet\n"
 line_of (Refused at rule) = refused_line at rule
-line_of (Accepted instructions) = accepted_line instructions
+line_of (Accepted functions instructions) = accepted_line functions instructions
 line_of ArgCount = codes "entry: count\n"
 line_of (ArgKind argument) = numbered_line (codes "entry: kind of argument ") argument
 line_of (ArgIndex argument) = numbered_line (codes "entry: index of argument ") argument

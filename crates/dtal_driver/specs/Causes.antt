@@ -1,5 +1,5 @@
--- Why a text gives an accepted program, or an answer in its place.
-use Rattle.std.specs.Prelude.{◌≡◌, ◌≤◌, ◌⊎◌, ℕ, List, [], length, Option, Some, None, Err}
+-- Why a text gives a program that is accepted, or an answer in its place.
+use Rattle.std.specs.Prelude.{◌≡◌, ◌<◌, ◌≤◌, ◌⊎◌, ℕ, List, [], length, Option, Some, None, Err}
 use Rattle.xan_io.specs.Entry.{EntryFault}
 use Rattle.xan_io.specs.Faults.{Rose}
 use Rattle.xan_io.specs.Outcome.{Outcome}
@@ -8,8 +8,18 @@ use Rattle.dtal_text.specs.StraightText.{IsStraightText}
 use Rattle.dtal_machine.specs.Typing.{IsAccepted}
 use Rattle.dtal_machine.specs.Refusal.{refusal}
 use Rattle.dtal_machine.specs.declared.refusal.VerifyError.TheVariants as verify
-use Rattle.dtal_machine.specs.declared.refusal.Where.{Where}
-use Rattle.dtal_machine.specs.declared.refusal.Rule.{Rule}
+use Rattle.dtal_machine.specs.declared.refusal.Where as straight_where
+use Rattle.dtal_machine.specs.declared.refusal.Rule as straight_rule
+use Rattle.xan_read.specs.Reader.{IsLongest}
+use Rattle.dtal_code.specs.declared.program.DtalProgram.{DtalProgram}
+use Rattle.dtal_code.specs.declared.refusal.Where.{Where}
+use Rattle.dtal_code.specs.declared.refusal.Rule.{Rule}
+use Rattle.dtal_code.specs.Acceptance.{Accepted}
+use Rattle.dtal_code.specs.Grammar.{InGrammar, Spells}
+use Rattle.dtal_code.specs.Refusing.{verified}
+use Rattle.dtal_text.specs.WholeText.{IsSpelled}
+use Rattle.dtal_driver.specs.Stops.{place_of, rule_of}
+use Rattle.dtal_driver.specs.VerifiedTexts.{text_most}
 use Rattle.dtal_driver.specs.declared.answer.Answer.{Answer}
 use Rattle.dtal_driver.specs.declared.answer.Answer.TheVariants as answer
 use Rattle.xan_io.specs.declared.arg.Arg.{Arg}
@@ -23,6 +33,42 @@ use Rattle.dtal_driver.specs.Answers.{status_of}
 use Rattle.dtal_driver.specs.Report.{IsNoText, Report, Reports, plain, heap, depth, steps, ended, fault_answer, report_text}
 use Rattle.dtal_driver.specs.Words.{Meant, Run, text_of}
 
+-- ---- whole texts, which are verified
+
+-- the bytes are not too many, and spell the program
+pub record IsText (bytes : List ℕ) (program : DtalProgram) : Type 0 where
+  pub short : length bytes ≤ text_most
+  pub spells : Spells bytes program
+
+-- they spell none, and so many of them begin one
+pub record IsNoProgram (bytes : List ℕ) (at : ℕ) : Type 0 where
+  pub short : length bytes ≤ text_most
+  pub longest : IsLongest IsSpelled bytes at
+
+-- they are the text of a program that is refused there, by that rule
+pub record IsRefusedProgram (bytes : List ℕ) (at : Where) (rule : Rule) : Type 0 where
+  pub program : DtalProgram
+  pub text : IsText bytes program
+  pub refused : verified program ≡ Err (record { at = at; rule = rule })
+
+-- the program is accepted, and where the content is told, it is the text of the program
+pub record IsVerified (content : Option (List ℕ)) (program : DtalProgram) : Type 0 where
+  pub grammar : InGrammar program
+  pub accepted : Accepted program
+  pub told : (bytes : List ℕ) → content ≡ Some bytes → IsText bytes program
+
+-- The answer where a name gives no accepted program: the read failed, and its count rose, or where the content is told, this is said of
+-- its bytes.
+abbrev pub IsDenied : Option (List ℕ) → ℕ → ℕ → Answer → Type 0
+IsDenied content faults faults' answer.ReadFailed = Rose faults faults'
+IsDenied content faults faults' answer.Memory = Unit {0}
+IsDenied content faults faults' answer.TooLong = (bytes : List ℕ) → content ≡ Some bytes → text_most < length bytes
+IsDenied content faults faults' (answer.NoProgram at) = (bytes : List ℕ) → content ≡ Some bytes → IsNoProgram bytes at
+IsDenied content faults faults' (answer.Refused at rule) = (bytes : List ℕ) → content ≡ Some bytes → IsRefusedProgram bytes at rule
+IsDenied content faults faults' _ = ⊥
+
+-- ---- straight texts, which are run
+
 -- the bytes are the text of this program, which is accepted
 pub record AcceptsBytes (bytes : List ℕ) (program : Straight) : Type 0 where
   pub text : IsStraightText bytes program
@@ -33,7 +79,11 @@ pub record AcceptsBytes (bytes : List ℕ) (program : Straight) : Type 0 where
 pub record IsRefusedText (bytes : List ℕ) (at : Where) (rule : Rule) : Type 0 where
   pub program : Straight
   pub text : IsStraightText bytes program
-  pub refused : refusal program ≡ Some (verify.Refused at rule)
+  pub place : straight_where.Where
+  pub broken : straight_rule.Rule
+  pub refused : refusal program ≡ Some (verify.Refused place broken)
+  pub at_is : at ≡ place_of place
+  pub rule_is : rule ≡ rule_of broken
 
 -- the program is accepted and short, and where the content is told, it is the text of the program
 pub record Accepts (content : Option (List ℕ)) (program : Straight) : Type 0 where

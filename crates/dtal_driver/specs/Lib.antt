@@ -3,4 +3,5 @@ pub mod Causes
 pub mod Promises
 pub mod Report
 pub mod Stops
+pub mod VerifiedTexts
 pub mod Words

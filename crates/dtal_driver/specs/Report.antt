@@ -1,5 +1,6 @@
 -- What a command reports of the text that its name holds: the numbers that it prints, and then its answer.
-use Rattle.std.specs.Prelude.{◌≡◌, ℕ, ℤ, List, [], ◌++◌, length, Option, Some, None, Result, Ok, Err, option_map, ◌⊎◌}
+use Rattle.std.specs.Prelude.{◌≡◌, ℕ, ℤ, List, [], ◌++◌, Option, Some, None, Result, Ok, Err, option_map, ◌⊎◌}
+use Rattle.xan_io.specs.declared.arg.Arg.{Arg}
 use Rattle.xan_io.specs.Entry as fault
 use Rattle.xan_io.specs.Outcome as how
 use Rattle.dtal_code.specs.declared.op.Op.{Op}
@@ -15,6 +16,8 @@ use Rattle.dtal_driver.specs.declared.answer.Answer.TheVariants as answer
 use Rattle.dtal_driver.specs.declared.run.End.{End}
 use Rattle.dtal_driver.specs.declared.run.End.TheVariants as ends
 use Rattle.dtal_driver.specs.Answers.{line_of, number_lines}
+use Rattle.dtal_driver.specs.Stops.{place_of, rule_of}
+use Rattle.dtal_driver.specs.VerifiedTexts.{Judges}
 use Rattle.dtal_driver.specs.Words.{Meant, Verify, Run}
 
 pub record Report : Type 0 where
@@ -61,12 +64,12 @@ answer_of ends.Overflow = answer.Overflow
 abbrev pub ended : how.Outcome → Option Report
 ended outcome = option_map (λ end. record { printed = outcome.printed; answer = answer_of end }) (end_of outcome.how)
 
--- ---- programs
+-- ---- straight programs, which are run
 
 -- the first refusal, if there is one, and else what follows
 abbrev pub unless_refused : Option VerifyError → Option Report → Option Report
 unless_refused None more = more
-unless_refused (Some (verify.Refused at rule)) more = Some (plain (answer.Refused at rule))
+unless_refused (Some (verify.Refused at rule)) more = Some (plain (answer.Refused (place_of at) (rule_of rule)))
 unless_refused (Some verify.Memory) more = None
 
 -- what is said of a fault of the arguments
@@ -81,28 +84,34 @@ abbrev pub run_report : List Op → Result (Option State) fault.EntryFault → O
 run_report code (Err fault) = Some (plain (fault_answer fault))
 run_report code (Ok entry) = ended (outcome_from code entry steps)
 
--- what the command reports of an accepted program
-abbrev pub accepted_report : Meant → Straight → Option Report
-accepted_report (Verify text) program = Some (plain (answer.Accepted (length program.code)))
-accepted_report (Run text args) program = run_report program.code (straight_entry program args heap depth)
+-- what is reported of an accepted program that is run on these arguments
+abbrev pub accepted_report : List Arg → Straight → Option Report
+accepted_report args program = run_report program.code (straight_entry program args heap depth)
 
 -- and of any program
-abbrev pub program_report : Meant → Straight → Option Report
-program_report command program = unless_refused (refusal program) (accepted_report command program)
+abbrev pub program_report : List Arg → Straight → Option Report
+program_report args program = unless_refused (refusal program) (accepted_report args program)
 
 -- ---- texts
 
 -- the bytes are the text of this program, of which this is reported
-pub record ReportsOf (command : Meant) (bytes : List ℕ) (report : Report) : Type 0 where
+pub record ReportsOf (args : List Arg) (bytes : List ℕ) (report : Report) : Type 0 where
   pub program : Straight
   pub text : IsStraightText bytes program
-  pub is : program_report command program ≡ Some report
+  pub is : program_report args program ≡ Some report
 
--- the bytes are the text of no program
+-- what is said of the bytes is reported, and nothing is printed before
+pub record Verifies (bytes : List ℕ) (report : Report) : Type 0 where
+  pub said : Answer
+  pub judges : Judges bytes said
+  pub is : report ≡ plain said
+
+-- the bytes are the text of no straight program
 abbrev pub IsNoText : List ℕ → Type 0
 IsNoText bytes = (program : Straight) → IsStraightText bytes program → ⊥
 
--- This is what the command reports where its name holds these bytes: a text that is not straight is not built yet, and of any other it
--- is what is reported of its program.
+-- This is what the command reports where its name holds these bytes. `run` takes straight texts so far: of another one it reports that
+-- it is not built yet, and of a straight text what is reported of its program.
 abbrev pub Reports : Meant → List ℕ → Report → Type 0
-Reports command bytes report = (IsNoText bytes × (report ≡ plain answer.NotBuilt)) ⊎ ReportsOf command bytes report
+Reports (Verify text) bytes report = Verifies bytes report
+Reports (Run text args) bytes report = (IsNoText bytes × (report ≡ plain answer.NotBuilt)) ⊎ ReportsOf args bytes report

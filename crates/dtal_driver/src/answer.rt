@@ -2,10 +2,11 @@
 
 ghost use Rattle.std.specs.Prelude.{◌≡◌};
 ghost use Rattle.dtal_driver.specs.Answers.{status_of};
-ghost use Rattle.dtal_driver.specs.Stops.{of_read, of_text, of_verdict};
+ghost use Rattle.dtal_driver.specs.Stops.{of_read, of_program, of_text, of_verdict};
 
-use dtal_machine::{Rule, VerifyError, Where};
-use dtal_text::StraightError;
+use dtal_code::{Rule, Where};
+use dtal_text::{StraightError, TextError};
+use dtal_verifier::VerifyError;
 use xan_io::FileFault;
 
 /// How a command came out, in the order in which it may end. Arguments and rows are numbered from 1.
@@ -15,14 +16,26 @@ pub enum Answer {
     NoCommand,
     /// The text could not be read.
     ReadFailed,
+    /// The text is longer than texts may be.
+    TooLong,
     /// Memory ran out.
     Memory,
-    /// The text is of no form that is built yet.
+    /// The bytes are the text of no program. So many of them begin one, and one more begins none.
+    NoProgram(u64),
+    /// The text is not straight, and others are not run yet.
     NotBuilt,
     /// The program is not accepted: the first place that refuses, and its rule.
-    Refused { at: Where, rule: Rule },
-    /// The program is accepted, and has so many instructions.
-    Accepted(u32),
+    Refused {
+        at: Where,
+        rule: Rule,
+    },
+    /// The program is accepted.
+    Accepted {
+        /// How many functions it has.
+        functions: u64,
+        /// How many instructions these have.
+        instructions: u64,
+    },
     /// Another number of arguments than of parameters.
     ArgCount,
     /// The argument is of another kind than the parameter.
@@ -43,10 +56,12 @@ impl Answer {
         ensures { result ≡ status_of self }
     {
         match self {
-            Answer::Accepted(_) | Answer::Returned(_) => 0,
+            Answer::Accepted { .. } | Answer::Returned(_) => 0,
             Answer::NoCommand => 2,
             Answer::ReadFailed => 3,
+            Answer::TooLong => 5,
             Answer::Memory => 6,
+            Answer::NoProgram(_) => 7,
             Answer::Refused { .. } => 11,
             Answer::ArgCount | Answer::ArgKind(_) | Answer::ArgIndex(_) | Answer::EntryRow(_) => 12,
             Answer::Overflow => 14,
@@ -62,6 +77,17 @@ impl From<FileFault> for Answer {
         match fault {
             FileFault::Failed => Answer::ReadFailed,
             FileFault::Memory => Answer::Memory,
+        }
+    }
+}
+
+impl From<TextError> for Answer {
+    ghost from_gives = { λ error answer. answer ≡ of_program error };
+
+    fn from(error: TextError) -> Answer {
+        match error {
+            TextError::Fault { at } => Answer::NoProgram(at),
+            TextError::Memory => Answer::Memory,
         }
     }
 }

@@ -6,8 +6,10 @@
 #![tactic(auto)]
 
 mod answer;
+mod counts;
 mod lines;
 mod run;
+mod straight;
 #[cfg(test)]
 mod tests;
 mod text;

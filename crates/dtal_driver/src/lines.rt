@@ -10,7 +10,7 @@ ghost use Rattle.dtal_driver.specs.Answers.{numbered, rule_name, where_text};
 
 use crate::answer::Answer;
 use arrayvec::ArrayString;
-use dtal_machine::{Rule, Where};
+use dtal_code::{Rule, Where};
 use itoa::Buffer;
 use xan_io::{Sink, SinkFault};
 
@@ -37,19 +37,34 @@ fn line_of(answer: Answer) -> Line
         Answer::NoCommand => line_of_word("words: not a command\n"),
         Answer::ReadFailed => line_of_word("read: failed\n"),
         Answer::Memory => line_of_word("memory\n"),
+        Answer::TooLong => line_of_word("limit: length 1099511627776\n"),
+        Answer::NoProgram(at) => line_of_number("text: at ", at, "\n"),
         Answer::NotBuilt => line_of_word("not built yet\n"),
         Answer::Refused { at, rule } => {
             line_of_place("refused: ", at, ": rule ", name_of(rule), "\n")
         }
-        Answer::Accepted(instructions) => line_of_number(
-            "accepted: 1 functions, ",
+        Answer::Accepted {
+            functions,
+            instructions,
+        } => line_of_two(
+            "accepted: ",
+            functions,
+            " functions, ",
             instructions,
             " instructions\n",
         ),
         Answer::ArgCount => line_of_word("entry: count\n"),
-        Answer::ArgKind(argument) => line_of_number("entry: kind of argument ", argument, "\n"),
-        Answer::ArgIndex(argument) => line_of_number("entry: index of argument ", argument, "\n"),
-        Answer::EntryRow(row) => line_of_number("entry: row ", row, "\n"),
+        Answer::ArgKind(argument) => line_of_number(
+            "entry: kind of argument ",
+            u64::from(argument),
+            "\n",
+        ),
+        Answer::ArgIndex(argument) => line_of_number(
+            "entry: index of argument ",
+            u64::from(argument),
+            "\n",
+        ),
+        Answer::EntryRow(row) => line_of_number("entry: row ", u64::from(row), "\n"),
         Answer::Returned(word) => line_of_result(&word),
         Answer::Overflow => line_of_word("overflow\n"),
     }
@@ -77,7 +92,7 @@ fn line_of_result(number: &i64) -> Line
 }
 
 /// A word, a number and another word.
-fn line_of_number(word: &str, number: u32, more: &str) -> Line
+fn line_of_number(word: &str, number: u64, more: &str) -> Line
     requires word { length word.now ≤ 30 }
     requires more { length more.now ≤ 30 }
     ensures { result.bytes ≡ numbered word.now number ++ more.now }
@@ -85,6 +100,20 @@ fn line_of_number(word: &str, number: u32, more: &str) -> Line
     let mut line = ArrayString::new();
     push_numbered(&mut line, word, number);
     line.push_str(more);
+    line
+}
+
+/// A word and a number, another word and its number, and the end of the line.
+#[tactic(auto, using(crate::proofs::LineParts::parts))]
+fn line_of_two(word: &str, number: u64, part: &str, inner: u64, end: &str) -> Line
+    requires word { length word.now ≤ 30 }
+    requires part { length part.now ≤ 30 }
+    requires end { length end.now ≤ 30 }
+    ensures { result.bytes ≡ (numbered word.now number ++ numbered part.now inner) ++ end.now }
+{
+    let mut line = ArrayString::new();
+    push_twice(&mut line, word, number, part, inner);
+    line.push_str(end);
     line
 }
 
@@ -125,19 +154,29 @@ fn push_place(line: &mut Line, at: Where)
     ensures short { length line.new.bytes ≤ length line.old.bytes + 140 }
 {
     match at {
-        Where::Types(number) => push_numbered(line, "type ", number),
-        Where::Signature(function) => push_numbered(line, "function ", function),
+        Where::Types(number) => push_numbered(line, "type ", u64::from(number)),
+        Where::Signature(function) => push_numbered(line, "function ", u64::from(function)),
         Where::Program => line.push_str("program"),
-        Where::Label(function, label) => push_twice(line, "function ", function, " label ", label),
-        Where::Instr(function, number) => {
-            push_twice(line, "function ", function, " instruction ", number)
-        }
+        Where::Label(function, label) => push_twice(
+            line,
+            "function ",
+            u64::from(function),
+            " label ",
+            u64::from(label),
+        ),
+        Where::Instr(function, number) => push_twice(
+            line,
+            "function ",
+            u64::from(function),
+            " instruction ",
+            u64::from(number),
+        ),
     }
 }
 
 /// Adds a word and a number, and another word and its number.
 #[tactic(auto, using(crate::proofs::LineParts::parts))]
-fn push_twice(line: &mut Line, word: &str, number: u32, part: &str, inner: u32)
+fn push_twice(line: &mut Line, word: &str, number: u64, part: &str, inner: u64)
     requires line { length line.old.bytes ≤ 30 }
     requires word { length word.now ≤ 30 }
     requires part { length part.now ≤ 30 }
@@ -150,7 +189,7 @@ fn push_twice(line: &mut Line, word: &str, number: u32, part: &str, inner: u32)
 
 /// Adds a word and a number behind it.
 #[tactic(auto, using(crate::proofs::LineParts::parts))]
-fn push_numbered(line: &mut Line, word: &str, number: u32)
+fn push_numbered(line: &mut Line, word: &str, number: u64)
     requires line { length line.old.bytes ≤ 100 }
     requires word { length word.now ≤ 30 }
     ensures bytes { line.new.bytes ≡ line.old.bytes ++ numbered word.now number }

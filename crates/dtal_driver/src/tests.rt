@@ -1,6 +1,7 @@
 // What no clause says: that memory suffices for these runs, and that the definitions mean what they should. The expected values were
 // worked out by hand.
 use crate::dtal_top;
+use itoa::Buffer;
 use std::alloc::Global;
 use std::test::Fail;
 use xan_io::{MemFiles, MemSink, Memory, SafeFiles};
@@ -123,7 +124,8 @@ const RUNS: &[(&[u8], &[&str], u8, &[u8])] = &[
         0,
         b"-9223372036854775808\n9223372036854775807\n",
     ),
-    (REGISTER_16, VERIFY, 20, b"not built yet\n"),
+    (REGISTER_16, VERIFY, 7, b"text: at 60\n"),
+    (REGISTER_16, &["run", "text"], 20, b"not built yet\n"),
     (ECHO, &["run", "text"], 12, b"entry: count\n"),
     (
         ECHO,
@@ -359,38 +361,89 @@ fn the_bounds_of_straight_texts(rt: HostRuntime) -> Result<(), Fail> {
         )?
     );
     let more = long_code(alloc, 1001)?;
-    assert!(rt; comes_out(alloc, VERIFY, Some(more.as_slice()), 20, b"not built yet\n")?);
-    let longest = long_name(alloc, 1048576)?;
-    assert_eq!(rt; longest.len(), 1048576);
     assert!(rt;
         comes_out(
             alloc,
             VERIFY,
+            Some(more.as_slice()),
+            0,
+            b"accepted: 1 functions, 1001 instructions\n"
+        )?
+    );
+    assert!(rt;
+        comes_out(
+            alloc,
+            &["run", "text", "int=1"],
+            Some(more.as_slice()),
+            20,
+            b"not built yet\n"
+        )?
+    );
+    let longest = long_name(alloc, 1048576)?;
+    assert_eq!(rt; longest.len(), 1048576);
+    let run = &["run", "text"];
+    assert!(rt;
+        comes_out(
+            alloc,
+            run,
             Some(longest.as_slice()),
             11,
             b"refused: program: rule main\n"
         )?
     );
     let longer = long_name(alloc, 1048577)?;
+    assert!(rt; comes_out(alloc, run, Some(longer.as_slice()), 20, b"not built yet\n")?);
     assert!(rt;
         comes_out(
             alloc,
             VERIFY,
             Some(longer.as_slice()),
-            20,
-            b"not built yet\n"
+            11,
+            b"refused: program: rule main\n"
         )?
     );
     Ok(())
 }
 
+/// Whether the line says that so many bytes begin a text.
+fn says_at(alloc: Global, said: &[u8], at: usize) -> Result<bool, Memory> {
+    let mut line = Vec::from_slice(alloc, b"text: at ")?;
+    let mut buffer = Buffer::new();
+    line.extend_from_slice(buffer.format(at).as_bytes())?;
+    line.push(b'\n')?;
+    Ok(said == line.as_slice())
+}
+
+/// The first line alone spells the program without functions, which has no `main`.
+const FIRST_LINE: &[u8] = b"dtal 1\n";
+
 #[test]
-fn no_proper_prefix_is_straight(rt: HostRuntime) -> Result<(), Fail> {
+fn the_first_line_is_the_only_proper_prefix_that_is_a_text(rt: HostRuntime) -> Result<(), Fail> {
     let alloc = rt.alloc();
     for len in 0..ECHO.len() {
         let (prefix, _) = ECHO.split_at(len);
+        let verified = run(
+            alloc,
+            VERIFY,
+            Some(prefix),
+            Vec::new(alloc),
+            1000,
+            Vec::new(alloc),
+        )?;
+        let wanted = if prefix == FIRST_LINE {
+            verified.status == 11 && verified.said.as_slice() == b"refused: program: rule main\n"
+        } else {
+            verified.status == 7 && says_at(alloc, verified.said.as_slice(), len)?
+        };
+        assert!(rt; wanted, "prefix {len}");
         assert!(rt;
-            comes_out(alloc, VERIFY, Some(prefix), 20, b"not built yet\n")?,
+            comes_out(
+                alloc,
+                &["run", "text", "int=1"],
+                Some(prefix),
+                20,
+                b"not built yet\n"
+            )?,
             "prefix {len}"
         );
     }

@@ -1,29 +1,33 @@
 //! The whole program: words in, a status out.
 
-ghost use Rattle.std.specs.Prelude.{◌≡◌, ◌≢◌, ◌<◌, ◌≤◌, ◌⊎◌, ℕ, List, length, Some, None, [], IfOk, IfErr};
+ghost use Rattle.std.specs.Prelude.{◌≡◌, ◌≢◌, ◌<◌, ◌≤◌, ◌⊎◌, ℕ, List, length, Some, None, Err, [], IfOk, IfErr};
 ghost use Rattle.xan_io.specs.Faults.{Rose};
 ghost use Rattle.dtal_machine.specs.Ending.{HasEnded};
 ghost use Rattle.dtal_machine.specs.Steps.{IsLive, run_on};
-ghost use Rattle.dtal_machine.specs.Refusal.{IsRefused};
 ghost use Rattle.dtal_machine.specs.Typing.{IsAccepted};
-ghost use Rattle.dtal_code.specs.declared.straight.Straight.{Straight};
-ghost use Rattle.dtal_text.specs.StraightText.{IsStraightText};
+ghost use Rattle.dtal_code.specs.declared.program.DtalProgram.{DtalProgram};
+ghost use Rattle.dtal_code.specs.Acceptance.{Accepted};
+ghost use Rattle.dtal_code.specs.Refusing.{verified};
 ghost use Rattle.std.specs.Io.KnownBytes.{append_known};
 ghost use Rattle.xan_io.specs.declared.arg.Arg.{Arg};
 ghost use Rattle.dtal_driver.specs.Answers.{status_of, line_of};
-ghost use Rattle.dtal_driver.specs.Promises.{IsStatus, OfText, RefusedAt, FaultyAt, RanTo, Ran, AcceptedText, Said, SaidInPart};
-ghost use Rattle.dtal_driver.specs.Causes.{Cause, TextRose, IsLoaded, IsFaulty, IsLoadedFrom, Says, Went, RunSaid};
-ghost use Rattle.dtal_driver.specs.Report.{Report, Reports, IsNoText, plain, report_text, steps};
+ghost use Rattle.dtal_driver.specs.Promises.{IsStatus, OfText, TooLongFor, NoProgramAt, NotStraight, RefusedAt, FaultyAt, RanTo, Ran, AcceptedText, Said, SaidInPart};
+ghost use Rattle.dtal_driver.specs.Causes.{Cause, TextRose, IsText, IsLoaded, IsFaulty, IsLoadedFrom, Says, Went, RunSaid};
+ghost use Rattle.dtal_driver.specs.Report.{Report, Reports, plain, report_text, steps};
 ghost use Rattle.dtal_driver.specs.Words.{Meant, words_mean, text_of, Verify, Run};
 ghost use Rattle.xan_io.specs.Words.{texts};
 
 use crate::answer::Answer;
+use crate::counts::accepted_answer;
 use crate::lines::put_line;
 use crate::run::{End, run};
-use crate::text::accepted_program;
+use crate::straight::accepted_program;
+use crate::text::verified_program;
 use crate::words::{Command, WordsError, read_command};
-use dtal_code::one_program_a_text;
-use dtal_machine::{LoadError, Machine, Rule, Verified, Where};
+use dtal_code::{Rule, Where, one_program_a_text};
+use dtal_machine::{LoadError, Machine, Verified};
+use dtal_safety::accepted_programs_run_safely;
+use dtal_text::program_texts_are_read;
 use std::alloc::Global;
 use xan_io::{Arg, Files, Sink};
 
@@ -49,9 +53,11 @@ pub fn dtal_top<F: Files, O: Sink>(alloc: Global, words: &[&str], files: &mut F,
     ensures put_failed { result ≡ 4 → Rose (O.faults out.old) (O.faults out.new) }
     ensures put_rises { O.faults out.old < O.faults out.new → result ≡ 4 }
 
-    // 20, 11, 12 and 14, by what the text holds; the clause `complete` says when they come.
-    ensures not_straight { result ≡ 20 → OfText (words_mean (texts words.now)) (F.content files.old) (λ command bytes. IsNoText bytes) }
-    ensures refused { result ≡ 11 → OfText (words_mean (texts words.now)) (F.content files.old) (λ command bytes. RefusedAt bytes (O.written out.old) (O.written out.new)) }
+    // 5, 7, 20, 11, 12 and 14, by what the text holds; the clause `complete` says when they come.
+    ensures too_long { result ≡ 5 → OfText (words_mean (texts words.now)) (F.content files.old) (λ command bytes. TooLongFor command bytes (O.written out.old) (O.written out.new)) }
+    ensures no_program { result ≡ 7 → OfText (words_mean (texts words.now)) (F.content files.old) (λ command bytes. NoProgramAt command bytes (O.written out.old) (O.written out.new)) }
+    ensures not_straight { result ≡ 20 → OfText (words_mean (texts words.now)) (F.content files.old) NotStraight }
+    ensures refused { result ≡ 11 → OfText (words_mean (texts words.now)) (F.content files.old) (λ command bytes. RefusedAt command bytes (O.written out.old) (O.written out.new)) }
     ensures faults { result ≡ 12 → OfText (words_mean (texts words.now)) (F.content files.old) (λ command bytes. FaultyAt command bytes (O.written out.old) (O.written out.new)) }
     ensures overflow { result ≡ 14 → OfText (words_mean (texts words.now)) (F.content files.old) (λ command bytes. RanTo command bytes End.Overflow (O.written out.old) (O.written out.new)) }
 
@@ -79,17 +85,19 @@ pub fn dtal_top<F: Files, O: Sink>(alloc: Global, words: &[&str], files: &mut F,
         → (Rose (O.faults out.old) (O.faults out.new) → ⊥) → (result ≡ status_of report.answer) ⊎ (result ≡ 6) }
 
     // So `verify` answers 0 where the program is accepted, and 11 where it is refused.
-    ensures accepts { (name bytes : List ℕ) (program : Straight) → words_mean (texts words.now) ≡ Some (Verify name)
-        → F.content files.old name ≡ Some bytes → IsStraightText bytes program → IsAccepted program
+    ensures accepts { (name bytes : List ℕ) (program : DtalProgram) → words_mean (texts words.now) ≡ Some (Verify name)
+        → F.content files.old name ≡ Some bytes → IsText bytes program → Accepted program
         → (Rose (F.read_faults files.old name) (F.read_faults files.new name) → ⊥)
         → (Rose (O.faults out.old) (O.faults out.new) → ⊥) → (result ≡ 0) ⊎ (result ≡ 6) }
-    ensures refuses { (name bytes : List ℕ) (program : Straight) (at : Where) (rule : Rule) → words_mean (texts words.now) ≡ Some (Verify name)
-        → F.content files.old name ≡ Some bytes → IsStraightText bytes program → IsRefused program at rule
+    ensures refuses { (name bytes : List ℕ) (program : DtalProgram) (at : Where) (rule : Rule) → words_mean (texts words.now) ≡ Some (Verify name)
+        → F.content files.old name ≡ Some bytes → IsText bytes program → verified program ≡ Err (record { at = at; rule = rule })
         → (Rose (F.read_faults files.old name) (F.read_faults files.new name) → ⊥)
         → (Rose (O.faults out.old) (O.faults out.new) → ⊥) → (result ≡ 11) ⊎ (result ≡ 6) }
 {
-    // Cites the law: a text spells no other program.
+    // Cites the laws: a text spells no other program, and an accepted program runs safely.
     one_program_a_text();
+    program_texts_are_read();
+    accepted_programs_run_safely();
     execute(alloc, words, files, out)
 }
 
@@ -130,8 +138,8 @@ fn verify_text<F: Files>(alloc: Global, files: &mut F, text: &str) -> Answer
     ensures unchanged { (name : List ℕ) → F.content files.new name ≡ F.content files.old name }
     ensures caused { Cause (Some (Verify text.now)) (F.content files.old) (F.read_faults files.old) (F.read_faults files.new) (plain result) }
 {
-    match accepted_program(alloc, files, text) {
-        Ok(verified) => Answer::Accepted(verified.program().code.as_slice().len() as u32),
+    match verified_program(alloc, files, text) {
+        Ok(verified) => accepted_answer(verified.program()),
         Err(answer) => answer,
     }
 }

@@ -1,4 +1,4 @@
 pub mod Typings
 pub mod Runs
 pub mod Machines
-pub mod Driving
+pub mod MachineSteps

@@ -8,7 +8,7 @@ use Rattle.dtal_code.specs.Machine.{Activation, Next, On, step, acts}
 use Rattle.dtal_code.specs.Entry.{kind_fault, straight_fault}
 use Rattle.xan_io.specs.Entry.{ArgCount}
 use Rattle.xan_io.specs.declared.arg.Arg.{Arg}
-use Rattle.dtal_code.proofs.Steps.{step-acts}
+use Rattle.dtal_code.proofs.StraightSteps.{step-acts}
 use Rattle.dtal_machine.specs.declared.act.Acted.{Acted}
 use Rattle.dtal_machine.specs.declared.act.Acted.TheVariants.{GoesOn, Prints, Ends}
 use Rattle.dtal_machine.specs.Typing.{has_type}

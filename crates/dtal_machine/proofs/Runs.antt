@@ -15,8 +15,8 @@ use Rattle.dtal_code.specs.Text.{IsOp, IsLast, EndsLast}
 use Rattle.dtal_code.specs.Machine.{Activation, State, Next, On, Off, step, run, after, goes_to, comes_to, moved_on, goes_on, fits_word}
 use Rattle.dtal_code.specs.Entry.{places_of, arg_words, straight_fault, first_state, entry_state, straight_entry, outcome_from, state_from}
 use Rattle.dtal_code.specs.Touched.{touches, touched_at, touched_by, touched, words_after, IsAllocated, IsSafe, IsSafeRun, RunsSafely}
-use Rattle.dtal_code.proofs.Steps.{length-put, get_within, length-places_of, fits_word-true, fits_word-fits, step-li, step-mv, step-add, step-add_overflow, step-sub, step-sub_overflow, step-print, step-ret_first}
-use Rattle.dtal_code.proofs.Arguments.{length-arg_words, fault-none_count}
+use Rattle.dtal_code.proofs.StraightSteps.{length-put, get_within, length-places_of, fits_word-true, fits_word-fits, step-li, step-mv, step-add, step-add_overflow, step-sub, step-sub_overflow, step-print, step-ret_first}
+use Rattle.dtal_code.proofs.EntryArguments.{length-arg_words, fault-none_count}
 use Rattle.dtal_machine.specs.Typing.{has_type, first_types, types_after, reads_typed, IsAccepted}
 use Rattle.dtal_machine.specs.Fits.{Fits}
 use Rattle.dtal_machine.specs.Ending.{HasEnded, RunEnds}

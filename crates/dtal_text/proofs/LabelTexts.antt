@@ -26,9 +26,9 @@ use Rattle.dtal_code.specs.Spelling.{each_behind, joined, ty_text, typed_place, 
 use Rattle.dtal_code.specs.Text.{place_text, IsPlace}
 use Rattle.dtal_text.specs.LineReading.{register_or_slot, place_from, typed_place_from, state_of, typed_places, label_state, proof}
 use Rattle.dtal_text.specs.Listings.{rising}
-use Rattle.dtal_text.specs.TypeReading.{type, quantifier}
+use Rattle.dtal_text.specs.TypeReading.{one_type, quantifier}
 use Rattle.dtal_text.proofs.ListingLaws.{spelled-rising, spelled-some_bounded}
-use Rattle.dtal_text.proofs.Operands.{register_text, slot_text}
+use Rattle.dtal_text.proofs.StraightOperands.{register_text, slot_text}
 use Rattle.dtal_text.proofs.OperandTexts.{place_first, place_some}
 use Rattle.dtal_text.proofs.SpelledValues.{joined_by, spelled_two, spelled_made}
 use Rattle.dtal_text.proofs.SpelledTypes.{Anything, spelled-type, IsQuantified, quantified_text, spelled-quantifier}
@@ -111,11 +111,11 @@ exact-place_from low few = exact-from (nat_lt low 16) low refl few
 exact-typed_place : (low : ℕ) → low ≤ 255 → Exact (typed_place_from low) (Spelled Any (λ x. (low ≤ x.0) × IsTypedPlace x) typed_place) Anything
 unfolding typed_place_from
 exact-typed_place low few = exact_as _ (Spelled Any (Both (From low) IsTyIn) (joined_by place_text (codes ":") ty_text)) _ Anything Anything
-    (spelled_two _ (codes ":") type (From low) IsTyIn place_text ty_text NoDigit Anything (exact-place_from low few) spelled-type (λ b rest _ _. refl))
+    (spelled_two _ (codes ":") one_type (From low) IsTyIn place_text ty_text NoDigit Anything (exact-place_from low few) spelled-type (λ b rest _ _. refl))
     (λ x text s. record { known = tt; fits = (s.fits.0.0, (s.fits.0.1, s.fits.1)); is = s.is })
     (λ x text s. record { known = tt; fits = ((s.fits.0, s.fits.1.0), s.fits.1.1); is = s.is }) (λ _ h. h)
 
-abbrev places_text : List (ℕ × Ty) → List ℕ
+abbrev pub places_text : List (ℕ × Ty) → List ℕ
 places_text places = joined (codes " ") typed_place places
 
 abbrev typed_first : (p : ℕ × Ty) (rest : List ℕ) → after 93 (typed_place p ++ rest) ≡ None
@@ -128,10 +128,10 @@ typed_some p = longer (place_text p.0) (codes ":" ++ ty_text p.1) (place_some p.
     longer [] b h = absurd (omega (arith, h))
     longer (x ∷ a) b h = omega arith
 
-abbrev PlacesFit : List (ℕ × Ty) → Type 0
+abbrev pub PlacesFit : List (ℕ × Ty) → Type 0
 PlacesFit places = KeysRise 0 places × All IsTypedPlace places
 
-exact-rising : Exact (rising 32 93 255 typed_place_from) (Spelled Any PlacesFit (λ places. places_text places ++ codes "]")) Anything
+pub exact-rising : Exact (rising 32 93 255 typed_place_from) (Spelled Any PlacesFit (λ places. places_text places ++ codes "]")) Anything
 exact-rising = spelled-rising 32 93 255 typed_place_from IsTypedPlace typed_place Anything exact-typed_place (λ x h. (let lt = h.0 in omega arith)) (λ e. omega arith) (λ x _. typed_some x)
     (λ x rest _. typed_first x rest) (λ _. tt) (λ _. tt)
 

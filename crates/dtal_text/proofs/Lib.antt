@@ -1,10 +1,10 @@
 mod Readers
-mod Operands
+mod StraightOperands
 mod StraightLines
 mod LowerNames
 mod Headers
-mod Whole
-mod Loops
+mod WholeTexts
+mod ParameterLoops
 mod ChainedLists
 mod ChainLoops
 mod SpelledValues
@@ -16,3 +16,7 @@ mod LineWords
 mod BodyTexts
 mod BlockTexts
 pub mod ProgramTexts
+mod MoreWords
+mod BuiltBlocks
+mod ListedPlaces
+mod WholePrograms

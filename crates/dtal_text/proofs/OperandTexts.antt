@@ -27,10 +27,11 @@ use Rattle.dtal_code.specs.Text.{place_text, IsRegister, IsPlace}
 use Rattle.dtal_text.specs.declared.word.OpWord.{OpWord}
 use Rattle.dtal_text.specs.declared.word.OpWord.TheVariants as word_of
 use Rattle.dtal_text.specs.Instructions.{register, place}
+use Rattle.dtal_text.specs.OperandCode.{listed_places}
 use Rattle.dtal_text.specs.OperandReading.{comparisons, truths, integer64, two_of, pair, three, as_array, places, value_from, edge, Way, plain, going, operands}
 use Rattle.dtal_text.specs.TypeReading.{whole_form, any_number, type_number}
 use Rattle.dtal_text.proofs.ListingLaws.{spelled-bounded, spelled-rising}
-use Rattle.dtal_text.proofs.Operands.{exact-register, exact-place}
+use Rattle.dtal_text.proofs.StraightOperands.{exact-register, exact-place}
 use Rattle.dtal_text.proofs.SpelledValues.{joined_by, spelled_two, spelled_made}
 use Rattle.dtal_text.proofs.SpelledTypes.{Anything, spelled-number, spelled-type_number, spelled-whole_form}
 
@@ -120,11 +121,15 @@ ArrayFits v = IsListed v.items
 abbrev FewPlaces : List ℕ → Type 0
 FewPlaces xs = (length xs ≤ MOST_LISTED) × All IsPlace xs
 
+pub spelled-listed : Exact listed_places (Spelled Any FewPlaces (λ xs. joined (codes " ") place_text xs ++ codes ")")) Anything
+spelled-listed =
+    spelled-bounded 32 41 place IsPlace place_text NoDigit exact-place (λ e. omega arith) (λ p _. place_some p) (λ p rest _. place_first 41 p rest (omega arith)) (λ _. refl) (λ _. refl) MOST_LISTED
+
 spelled-places : Exact places (Spelled Any ArrayFits array_text) Anything
 unfolding places
 spelled-places = spelled_behind (codes "(") _ Any ArrayFits (λ v. joined (codes " ") place_text v.items ++ codes ")") Anything
     (spelled_made as_array (λ v. v.items) _ FewPlaces ArrayFits (λ xs. joined (codes " ") place_text xs ++ codes ")") (λ v. joined (codes " ") place_text v.items ++ codes ")") Anything
-    (spelled-bounded 32 41 place IsPlace place_text NoDigit exact-place (λ e. omega arith) (λ p _. place_some p) (λ p rest _. place_first 41 p rest (omega arith)) (λ _. refl) (λ _. refl) MOST_LISTED)
+    spelled-listed
     (λ xs h. record { few = h.0; are = h.1 }) (λ v h. (h.few, h.are)) (λ v _. refl) (λ _. refl))
 
 -- ---- edges

@@ -1,5 +1,5 @@
 -- Literals in turn, and readers that follow one another.
-use Rattle.std.proofs.Common.{◌≡◌, ℕ, Bool, true, false, cond, eqb, suc, List, [], ◌∷◌, ◌++◌, length, Result, Ok, Err, refl}
+use Rattle.std.proofs.Common.{◌≡◌, ℕ, Bool, true, false, cond, eqb, suc, List, [], ◌∷◌, ◌++◌, length, Result, Ok, Err, refl, ap, ◌∙◌}
 use Rattle.xan_read.specs.Reader.{◌>>=◌}
 use Rattle.xan_read.specs.Combinators.{literal}
 
@@ -21,3 +21,9 @@ bind_assoc (Err n) f g = refl
 pub bind_same : {A B : Type 0} (r : Result A ℕ) (f g : A → Result B ℕ) → ((x : A) → f x ≡ g x) → (r >>= f) ≡ (r >>= g)
 bind_same (Ok x) f g e = e x
 bind_same (Err n) f g e = refl
+
+pub literal_fails : (a b bytes : List ℕ) (n : ℕ) → literal a bytes ≡ Err n → literal (a ++ b) bytes ≡ Err n
+literal_fails a b bytes n e = literal-append a b bytes ∙ ap (λ (r : Result (List ℕ) ℕ). r >>= literal b) e
+
+pub literal_more : (a b bytes rest : List ℕ) → literal a bytes ≡ Ok rest → literal (a ++ b) bytes ≡ literal b rest
+literal_more a b bytes rest e = literal-append a b bytes ∙ ap (λ (r : Result (List ℕ) ℕ). r >>= literal b) e

@@ -25,7 +25,7 @@ use Rattle.dtal_code.specs.Spelling.{each_behind, joined, ty_text, types_text, q
 use Rattle.dtal_text.specs.declared.word.TyWord.{TyWord}
 use Rattle.dtal_text.specs.declared.word.TyWord.TheVariants as ty_word
 use Rattle.dtal_text.specs.Chains.{two}
-use Rattle.dtal_text.specs.TypeReading.{whole_form, any_number, type_number, ty_words, closed, ty_behind, type, types, quantifier, kind_words, parts, packed_of, type_line, signature_of, signature}
+use Rattle.dtal_text.specs.TypeReading.{whole_form, any_number, type_number, ty_words, closed, ty_behind, one_type, types, quantifier, kind_words, parts, packed_of, type_line, signature_of, signature}
 use Rattle.dtal_text.proofs.ListingLaws.{spelled-unbounded, spelled-bounded, spelled-some_bounded}
 use Rattle.dtal_text.proofs.SpelledValues.{joined_by, spelled_two, spelled_made}
 
@@ -189,8 +189,8 @@ has_ty_word ty.Bool h = record { kind = ty_word.Bool; text = []; are = record { 
 has_ty_word (ty.Array p e) h = record { kind = ty_word.Array; text = array_text (p, e) ++ codes ")"; are = record { value = (p, e); made = refl; is = record { known = tt; fits = h; is = refl } } }
 has_ty_word (ty.Named p) h = record { kind = ty_word.Named; text = decimal p ++ codes ")"; are = record { value = p; made = refl; is = record { known = tt; fits = h; is = refl } } }
 
-pub spelled-type : Exact type (Spelled Any IsTyIn ty_text) Anything
-unfolding type
+pub spelled-type : Exact one_type (Spelled Any IsTyIn ty_text) Anything
+unfolding one_type
 spelled-type = exact_as _ (InTurn (IsWord ty_words) IsBehindTy) _ Anything Anything
     (exact-in_turn _ _ (IsWord ty_words) IsBehindTy Anything Anything (exact-word _ _ refl) (λ w _ _. exact-ty_behind w) (λ _ _ _ _ _ _. tt))
     (λ t text i. let m = made_ty i.value t i.back i.second in
@@ -217,7 +217,7 @@ FewTypes all = (length all ≤ MOST_LISTED) × All IsTyIn all
 
 pub spelled-types : Exact types (Spelled Any FewTypes (λ all. types_text all ++ codes ")")) Anything
 unfolding types
-spelled-types = spelled-bounded 32 41 type IsTyIn ty_text Anything spelled-type (λ e. omega arith) (λ t _. type_some t) (λ t rest _. type_first 41 t rest (omega arith)) (λ _. tt) (λ _. tt) MOST_LISTED
+spelled-types = spelled-bounded 32 41 one_type IsTyIn ty_text Anything spelled-type (λ e. omega arith) (λ t _. type_some t) (λ t rest _. type_first 41 t rest (omega arith)) (λ _. tt) (λ _. tt) MOST_LISTED
 
 -- ---- quantifiers
 
@@ -262,7 +262,7 @@ line_of all = types_text all ++ codes "\n"
 exact-parts : (tuple : Bool) → Exact (parts tuple) (Spelled Any (PartsFit tuple) line_of) Anything
 unfolding parts each_behind
 exact-parts true = exact_as _ (Spelled Any (λ all. (1 ≤ length all) × (length all ≤ MOST_LISTED) × All IsTyIn all) line_of) _ Anything Anything
-    (spelled-some_bounded 32 10 type IsTyIn ty_text Anything spelled-type (λ e. omega arith) (λ t _. type_some t) (λ t rest _. type_first 10 t rest (omega arith)) (λ _. tt) (λ _. tt) 7)
+    (spelled-some_bounded 32 10 one_type IsTyIn ty_text Anything spelled-type (λ e. omega arith) (λ t _. type_some t) (λ t rest _. type_first 10 t rest (omega arith)) (λ _. tt) (λ _. tt) 7)
     (λ all text s. record { known = tt; fits = ((s.fits.0, s.fits.1), s.fits.2); is = s.is })
     (λ all text s. record { known = tt; fits = (s.fits.0.0, s.fits.0.1, s.fits.1); is = s.is }) (λ _ _. tt)
 exact-parts false = exact_as _ (InTurn (Spelled Any IsTyIn ty_text) (λ t. IsBehind (codes "\n") (IsGiven (t ∷ [])))) _ Anything Anything
@@ -383,7 +383,7 @@ unfolding signature
 spelled-signature = spelled_made signature_of parts_of _ PartsIn IsSignature parts_text signature_text Anything
     (spelled_two quantifier (codes " (") _ IsQuantified (Both FewTypes (Both IsQuantified IsTyIn)) quantified_text back_text Anything Anything spelled-quantifier
     (spelled_two types (codes " ") _ FewTypes (Both IsQuantified IsTyIn) closed_types last_text Anything Anything spelled-types
-    (spelled_two quantifier (codes " ") type IsQuantified IsTyIn quantified_text ty_text Anything Anything spelled-quantifier spelled-type (λ _ _ _ _. tt)) (λ _ _ _ _. tt)) (λ _ _ _ _. tt))
+    (spelled_two quantifier (codes " ") one_type IsQuantified IsTyIn quantified_text ty_text Anything Anything spelled-quantifier spelled-type (λ _ _ _ _. tt)) (λ _ _ _ _. tt)) (λ _ _ _ _. tt))
     (λ x h. record { quantifier = h.0; few = h.1.0.0; params = h.1.0.1; result_quantifier = h.1.1.0; result = h.1.1.1 })
     (λ sig h. (h.quantifier, ((h.few, h.params), (h.result_quantifier, h.result))))
     (λ sig _. refl) signature_spells

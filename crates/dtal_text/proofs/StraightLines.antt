@@ -17,7 +17,7 @@ use Rattle.dtal_text.specs.declared.mnemonic.Mnemonic.{Mnemonic}
 use Rattle.dtal_text.specs.declared.mnemonic.Mnemonic.TheVariants.{Li, Mv, Add, Sub, Ret, Print}
 use Rattle.dtal_text.specs.Instructions.{mnemonics, operands, line}
 use Rattle.dtal_text.specs.Programs.{lines}
-use Rattle.dtal_text.proofs.Operands.{exact-register, exact-place, exact-load, exact-two_places, exact-three_registers}
+use Rattle.dtal_text.proofs.StraightOperands.{exact-register, exact-place, exact-load, exact-two_places, exact-three_registers}
 
 -- ---- what stands behind a word
 

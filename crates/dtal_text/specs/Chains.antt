@@ -20,6 +20,10 @@ chain_from item next (suc room) state bytes = item state bytes >>= λ x. goes_on
 abbrev pub chain : {S B : Type 0} → (S → Reader (Option B)) → (S → B → S) → S → Reader (List B)
 chain item next state bytes = chain_from item next (suc (length bytes)) state bytes
 
+-- what is made of the items that are read
+abbrev pub into : {B R : Type 0} → (List B → R) → Read (List B) → Read R
+into join read = read >>= λ xs. Ok (join xs.0, xs.1)
+
 -- ---- two values with bytes between
 
 abbrev pub two : {A B : Type 0} → Reader A → List ℕ → Reader B → Reader (A × B)

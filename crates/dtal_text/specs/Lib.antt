@@ -7,3 +7,6 @@ pub mod TypeReading
 pub mod OperandReading
 pub mod LineReading
 pub mod ProgramReading
+pub mod OperandCode
+pub mod Building
+pub mod WholeText

@@ -24,7 +24,7 @@ use Rattle.dtal_text.specs.declared.word.OpWord.TheVariants as op_word
 use Rattle.dtal_text.specs.Chains.{two, chain}
 use Rattle.dtal_text.specs.Listings.{rising, some_bounded}
 use Rattle.dtal_text.specs.OperandReading.{Way, operands}
-use Rattle.dtal_text.specs.TypeReading.{type, quantifier}
+use Rattle.dtal_text.specs.TypeReading.{one_type, quantifier}
 
 -- ---- which lines may come
 
@@ -95,7 +95,7 @@ unfoldable pub place_from : (low : ℕ) → Reader ℕ
 place_from low = register_or_slot (nat_lt low 16) low
 
 unfoldable pub typed_place_from : (low : ℕ) → Reader (ℕ × Ty)
-typed_place_from low = two (place_from low) (codes ":") type
+typed_place_from low = two (place_from low) (codes ":") one_type
 
 abbrev pub state_of : (ℕ × List Linear) × List (ℕ × Ty) → LabelState
 state_of x = record { vars = x.0.0; rows = x.0.1; places = x.1 }

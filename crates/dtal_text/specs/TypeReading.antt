@@ -41,12 +41,12 @@ ty_behind ty_word.Bool = give ty.Bool
 ty_behind ty_word.Array = made (λ x. ty.Array x.0 x.1) (closed (two type_number (codes ",") whole_form))
 ty_behind ty_word.Named = made (λ number. ty.Named number) (closed type_number)
 
-unfoldable pub type : Reader Ty
-type = in_turn (word ty_words) ty_behind
+unfoldable pub one_type : Reader Ty
+one_type = in_turn (word ty_words) ty_behind
 
 -- in parentheses, behind the opening one
 unfoldable pub types : Reader (List Ty)
-types = bounded 32 41 MOST_LISTED type
+types = bounded 32 41 MOST_LISTED one_type
 
 -- ---- quantifiers
 
@@ -60,8 +60,8 @@ kind_words = (codes " tuple ", true) ∷ (codes " cell ", false) ∷ []
 
 -- the parts, and the end of the line
 unfoldable pub parts : (tuple : Truth) → Reader (List Ty)
-parts true = some_bounded 32 10 MOST_LISTED type
-parts false = in_turn type (λ t. behind (codes "\n") (give (t ∷ [])))
+parts true = some_bounded 32 10 MOST_LISTED one_type
+parts false = in_turn one_type (λ t. behind (codes "\n") (give (t ∷ [])))
 
 abbrev pub packed_of : ℕ × List Linear → (tuple : Truth) → List Ty → Packed
 packed_of q tuple all = record { vars = q.0; rows = q.1; parts = all; tuple = tuple }
@@ -83,4 +83,4 @@ signature_of x = record {
 }
 
 unfoldable pub signature : Reader Signature
-signature = made signature_of (two quantifier (codes " (") (two types (codes " ") (two quantifier (codes " ") type)))
+signature = made signature_of (two quantifier (codes " (") (two types (codes " ") (two quantifier (codes " ") one_type)))

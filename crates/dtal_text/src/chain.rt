@@ -2,10 +2,13 @@
 
 ghost use Rattle.std.specs.Prelude.{◌≡◌, ℕ, List, Option, Result};
 ghost use Rattle.xan_read.specs.Code.{Reads};
+ghost use Rattle.xan_read.specs.Lists.{onto};
 ghost use Rattle.dtal_text.specs.Chains.{chain};
+ghost use Rattle.dtal_text.specs.Listings.{some_bounded};
 
+use crate::bounded::Bounded;
 use std::alloc::Global;
-use xan_read::{Fault, ReadError};
+use xan_read::{Fault, Production, ReadError};
 
 /// A production whose texts are items of such lists, or the mark at their end.
 pub trait Chained {
@@ -32,6 +35,7 @@ pub trait Chained {
 }
 
 /// The items at the front up to the mark, and the bytes behind it.
+#[tactic(auto, using(crate::proofs::ChainLoops::onto_none))]
 pub fn read_chain<'a, C: Chained>(
     alloc: Global,
     chained: &C,
@@ -40,7 +44,42 @@ pub fn read_chain<'a, C: Chained>(
 ) -> Result<(Vec<C::Item>, &'a [u8]), ReadError>
     ensures { Reads (λ x. (x.0.items, x.1.now)) result (chain (C.reader chained.now) (C.behind chained.now) first bytes.now) }
 {
+    read_onto(alloc, Vec::new(alloc), chained, first, bytes)
+}
+
+/// An item, and behind it the others up to the mark, and the bytes behind that.
+pub(crate) fn read_some<'a, P: Production + Drop>(
+    alloc: Global,
+    between: u8,
+    mark: u8,
+    room: u64,
+    item: P,
+    bytes: &'a [u8],
+) -> Result<(Vec<P::Value>, &'a [u8]), ReadError>
+    ensures { Reads (λ x. (x.0.items, x.1.now)) result (some_bounded between mark room (P.reader item) bytes.now) }
+{
+    let (first, rest) = item.read(alloc, bytes)?;
     let mut items = Vec::new(alloc);
+    items.push(first)?;
+    let list = Bounded {
+        between,
+        mark,
+        item,
+    };
+    read_onto(alloc, items, &list, (false, room.saturating_sub(1)), rest)
+}
+
+// These items, and behind them the ones at the front.
+fn read_onto<'a, C: Chained>(
+    alloc: Global,
+    made: Vec<C::Item>,
+    chained: &C,
+    first: C::State,
+    bytes: &'a [u8],
+) -> Result<(Vec<C::Item>, &'a [u8]), ReadError>
+    ensures { Reads (λ x. (x.0.items, x.1.now)) result (onto made.items (chain (C.reader chained.now) (C.behind chained.now) first bytes.now)) }
+{
+    let mut items = made;
     let mut state = first;
     let mut rest = bytes;
     'items: for _ in 0..bytes.len() {

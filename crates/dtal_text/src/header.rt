@@ -54,7 +54,7 @@ fn after_signature(bytes: &[u8], count: u64) -> Result<&[u8], Fault>
 }
 
 /// The name of a function, and the bytes behind it.
-fn read_name(bytes: &[u8]) -> Result<(&[u8], &[u8]), Fault>
+pub(crate) fn read_name(bytes: &[u8]) -> Result<(&[u8], &[u8]), Fault>
     ensures { Gives (λ x. (x.0.now, x.1.now)) result (name keywords bytes.now) }
 {
     name(

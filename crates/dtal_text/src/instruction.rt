@@ -9,7 +9,7 @@ use xan_read::{Fault, after, integer, literal, number, word};
 
 /// A register, `r0` to `r15`, and the bytes behind it.
 #[tactic(auto, unfolding(crate::specs::Instructions::register))]
-fn read_register(bytes: &[u8]) -> Result<(u8, &[u8]), Fault>
+pub(crate) fn read_register(bytes: &[u8]) -> Result<(u8, &[u8]), Fault>
     ensures { Gives (λ x. (x.0, x.1.now)) result (register bytes.now) }
 {
     let (register, rest) = number(literal(bytes, b"r")?, 0, 15)?;
@@ -18,7 +18,7 @@ fn read_register(bytes: &[u8]) -> Result<(u8, &[u8]), Fault>
 
 /// A register or a slot, `s0` to `s239`, and the bytes behind it.
 #[tactic(auto, unfolding(crate::specs::Instructions::place))]
-fn read_place(bytes: &[u8]) -> Result<(u8, &[u8]), Fault>
+pub(crate) fn read_place(bytes: &[u8]) -> Result<(u8, &[u8]), Fault>
     ensures { Gives (λ x. (x.0, x.1.now)) result (place bytes.now) }
 {
     match after(bytes, b'r') {

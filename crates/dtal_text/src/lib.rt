@@ -6,20 +6,30 @@
 //! and a function that gives what the reader gives. [`read_chain`] reads lists in which what an item may be hangs on those before it.
 #![tactic(auto)]
 
+mod body;
 mod bounded;
+mod building;
 mod chain;
+mod edges;
 mod error;
 mod header;
 mod instruction;
+mod items;
+mod labels;
 mod laws;
 mod line;
+mod listed;
 mod mnemonic;
+mod operands;
 mod program;
+mod signatures;
 mod tables;
-#[cfg(test)]
-mod tests;
+mod text_error;
+mod types;
 mod unbounded;
+mod whole;
 mod word;
+mod words;
 
 pub use bounded::Bounded;
 pub use chain::{Chained, read_chain};
@@ -27,5 +37,7 @@ pub use error::StraightError;
 pub use laws::program_texts_are_read;
 pub use line::{BodyLine, Lines, Stand, Which};
 pub use program::read_straight;
+pub use text_error::TextError;
 pub use unbounded::Unbounded;
+pub use whole::read;
 pub use word::{LineWord, OpWord, TyWord};

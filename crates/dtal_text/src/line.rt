@@ -32,9 +32,9 @@ pub enum Stand {
 #[derive(Clone, Copy, Drop)]
 pub struct Lines {
     /// How many labels.
-    pub labels: u32,
+    pub labels: u64,
     /// How many instructions.
-    pub instrs: u32,
+    pub instrs: u64,
     /// Where the next line stands.
     pub stand: Stand,
 }

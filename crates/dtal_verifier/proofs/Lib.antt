@@ -6,4 +6,4 @@ pub mod WalksSame
 pub mod DeclaredNames
 pub mod StandingStates
 pub mod PlacesTurns
-pub mod Accepting
+pub mod VerdictLaws

@@ -6,7 +6,7 @@ use Rattle.xan_lin.specs.declared.term.LimitKind.{LimitKind}
 use Rattle.xan_lin.specs.declared.term.LimitKind.TheVariants as limit
 use Rattle.xan_lin.specs.declared.term.TooLarge.{TooLarge}
 use Rattle.xan_lin.proofs.Booleans.{is_not_less}
-use Rattle.xan_lin.proofs.Sums.{IsRising-negated}
+use Rattle.xan_lin.proofs.TermSums.{IsRising-negated}
 use Rattle.proof_lines.proofs.Opposites.{opposite_is}
 use Rattle.linear_solver.specs.declared.answer.Answer.{Answer}
 use Rattle.linear_solver.specs.declared.answer.Answer.TheVariants.{Unproved, Limit}
@@ -18,7 +18,7 @@ use Rattle.linear_solver.specs.Tracing.{traced}
 use Rattle.linear_solver.specs.Cone.{cone}
 use Rattle.linear_solver.specs.Elimination.{ended, after_look, after_rows, rounds, bears, with_hyps, first_rows, in_cone, from_start, refutation}
 use Rattle.elimination_rounds.specs.Unbounded.{Refutes, IsSpent, Takes, Comes, overfull, refuted, exhausted, too_large, goes_on, ComesUnless, ComesFrom, IsAnswer}
-use Rattle.elimination_rounds.proofs.Cancelling.{rising-cut}
+use Rattle.elimination_rounds.proofs.ZeroCoefficients.{rising-cut}
 use Rattle.elimination_rounds.proofs.RoundRows.{numbered-all, tight-all, settle-all}
 use Rattle.elimination_rounds.proofs.VariablesLeft.{AreRising, left, left-most, next-rising, fewer-next, none-taken, left-numbered}
 use Rattle.elimination_rounds.proofs.ShownLooks.{full-after, full-ended, Shown, shows_full, shows_refuted, shows_spent, shows_taken, shown, takes-taken}

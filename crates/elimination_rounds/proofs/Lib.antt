@@ -1,4 +1,4 @@
-pub mod Cancelling
+pub mod ZeroCoefficients
 pub mod RoundRows
 pub mod VariablesLeft
 pub mod ShownLooks

@@ -13,7 +13,7 @@ use Rattle.linear_solver.specs.declared.step.Step.{Step}
 use Rattle.linear_solver.specs.Divisors.{divisor}
 use Rattle.linear_solver.specs.Systems.{Row, linear_of, row_of, divided_by, tight, same_terms, holds, placed, settle, reduced_onto, coefficient, with_sign, sum_of_two, sum_source, size, limited, bounded, with_sum, and_then, with_sums, with_all_sums, next_rows}
 use Rattle.linear_solver.specs.Numbering.{steps_with, line_with, at_line, numbered}
-use Rattle.linear_solver.proofs.Dividing.{divisor-divides}
+use Rattle.linear_solver.proofs.CommonDivisors.{divisor-divides}
 
 -- the terms of each row are so
 abbrev pub AreAll : (List Term → Type 0) → List Row → Type 0

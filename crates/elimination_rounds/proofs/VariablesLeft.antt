@@ -10,7 +10,7 @@ use Rattle.proof_lines.proofs.Proper.{both, join}
 use Rattle.linear_solver.specs.Systems.{Row, coefficient, first_by, second_by, sum_of_two, size, next_rows}
 use Rattle.linear_solver.specs.declared.step.Step.{Step}
 use Rattle.linear_solver.specs.Numbering.{numbered}
-use Rattle.elimination_rounds.proofs.Cancelling.{Lacks, lacks-cut, lacks-sum, lacks-taken}
+use Rattle.elimination_rounds.proofs.ZeroCoefficients.{Lacks, lacks-cut, lacks-sum, lacks-taken}
 use Rattle.elimination_rounds.proofs.RoundRows.{AreAll, has_positive, has_negative, has_none, all-each, numbered-all, next-all}
 
 abbrev pub AreRising : List Row → Type 0

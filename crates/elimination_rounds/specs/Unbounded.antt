@@ -1,5 +1,5 @@
 -- The elimination without a bound on its rounds: what comes of a system, and of hypotheses and a goal.
-use Rattle.std.specs.Prelude.{◌≡◌, ℕ, Some, None, List, [], length, nat_lt, Bool, true, false, Result, Ok, Err}
+use Rattle.std.specs.Prelude.{◌≡◌, ℕ, List, [], length, nat_lt, Bool, true, false, Result, Ok, Err}
 use Rattle.xan_lin.specs.Linear.{Linear, negated_row_of}
 use Rattle.xan_lin.specs.declared.term.LimitKind.{LimitKind}
 use Rattle.xan_lin.specs.declared.term.LimitKind.TheVariants as limit
@@ -8,22 +8,22 @@ use Rattle.linear_solver.specs.declared.answer.Answer.{Answer}
 use Rattle.linear_solver.specs.declared.answer.Answer.TheVariants.{Unproved, Limit}
 use Rattle.linear_solver.specs.declared.step.Step.{Step}
 use Rattle.linear_solver.specs.Systems.{Row, limited, next_rows}
-use Rattle.linear_solver.specs.Choosing.{choice_of, taken, refuted_or, look_at}
+use Rattle.linear_solver.specs.declared.source.Look.TheVariants.{Refuted, Spent, Take}
+use Rattle.linear_solver.specs.Choosing.{look_at}
 use Rattle.linear_solver.specs.Numbering.{numbered}
 use Rattle.linear_solver.specs.Tracing.{traced}
 use Rattle.linear_solver.specs.Cone.{cone}
 use Rattle.linear_solver.specs.Elimination.{first_rows}
 
--- what a look at a system shows: its first row that cannot hold, that no variable is left, or the variable that is taken next; a look keeps the
--- variable of a choice alone, so that the number of its rows says nothing
+-- what a look at a system shows: its first row that cannot hold, that no variable is left, or the variable that is taken next
 abbrev pub Refutes : List ℕ → List Row → ℕ → Type 0
-Refutes vars rows line = look_at vars rows ≡ refuted_or (Some line) None
+Refutes vars rows line = look_at vars rows ≡ Refuted line
 
 abbrev pub IsSpent : List ℕ → List Row → Type 0
-IsSpent vars rows = look_at vars rows ≡ taken None
+IsSpent vars rows = look_at vars rows ≡ Spent
 
 abbrev pub Takes : List ℕ → List Row → ℕ → Type 0
-Takes vars rows var = look_at vars rows ≡ taken (choice_of var 1 0)
+Takes vars rows var = look_at vars rows ≡ Take var
 
 -- what comes of the steps and rows so far, in as many rounds as it takes: a look ends it, a next system passes a limit, or it goes on from one
 pub data Comes (vars : List ℕ) : List Step → List Row → Result (List Step) Answer → Type 0 where

@@ -7,8 +7,8 @@ use Rattle.xan_lin.specs.declared.term.Term.{Term}
 use Rattle.xan_lin.specs.declared.term.TooLarge.{TooLarge}
 use Rattle.xan_lin.specs.declared.term.TooLarge.TheVariants.{Terms, Magnitude}
 use Rattle.xan_lin.proofs.Booleans.{first_false, second_false}
-use Rattle.xan_lin.proofs.Sizes.{sized-large, sized-many}
-use Rattle.xan_lin.proofs.Sums.{sum-none}
+use Rattle.xan_lin.proofs.FormSizes.{sized-large, sized-many}
+use Rattle.xan_lin.proofs.TermSums.{sum-none}
 use Rattle.xanadu_tree.specs.IndexRules.{AreRising}
 use Rattle.typed_core.specs.Forms.{term_of}
 

@@ -117,10 +117,12 @@ pub fn note_state(rows: &Context, st: &mut State) -> Result<(), Failure>
 }
 
 /// The same, with the rows that hold here.
+#[tactic(auto, unfolding(typed_core::specs::States::noting_state))]
 pub fn note_here(st: &mut State) -> Result<(), Failure>
     ensures noted { IfOk result (λ _. state_of st.new ≡ spec.noting_state st.old.ctx.rows (state_of st.old)) }
     ensures kept { st.new.ctx ≡ st.old.ctx }
 {
-    let rows = st.ctx.copy()?;
-    note_state(&rows, st)
+    let state = st.point()?;
+    st.notes.push(Note::State(state))?;
+    Ok(())
 }

@@ -5,7 +5,7 @@ ghost use Rattle.expression_elaborator.specs.Code.{Gives};
 ghost use Rattle.typed_core.specs.Limits as spec;
 
 use crate::error::Stop;
-use xan_lin::LimitKind;
+use xan_lin::{BOUND, LimitKind};
 
 /// How much of each there may be.
 fn most(kind: LimitKind) -> u64
@@ -18,7 +18,7 @@ fn most(kind: LimitKind) -> u64
         LimitKind::Parameters => 8,
         LimitKind::Rows => 512,
         LimitKind::Terms => 16,
-        LimitKind::Magnitude => 4_611_686_018_427_387_903,
+        LimitKind::Magnitude => BOUND as u64,
         LimitKind::Places => 240,
         LimitKind::System => 2000,
     }

@@ -94,7 +94,7 @@ pub fn operand(e: &CoreExpr, site: &Site<'_>, st: &mut State) -> Result<Ty, Stop
     match e {
         CoreExpr::Int(value) => number(value, site, st),
         CoreExpr::Bool(truth) => type_by(site, None, &Operation::Truth(*truth), &[], st),
-        CoreExpr::Var(x) => type_of(*x, st.places.entries()),
+        CoreExpr::Var(x) => type_of(*x, &st.places),
         CoreExpr::Neg(inner) => {
             let ty = operand(inner, site, st)?;
             type_by(site, None, &Operation::Sub, &[Ty::Int(zero()), ty], st)

@@ -1,9 +1,10 @@
 //! What is known at a place of a function's body, and how a walk goes from there to the next place.
 
-ghost use Rattle.std.specs.Prelude.{◌≡◌, ◌≤◌, ◌<◌, ◌+◌, suc, true, false, Ok, Err, IfOk};
+ghost use Rattle.std.specs.Prelude.{◌≡◌, ◌≤◌, ◌<◌, ◌+◌, suc, true, false, Ok, Err, IfOk, length, nat_lt, option_map};
+ghost use Rattle.std.specs.List.Sorted.{IsPartitionPoint};
 ghost use Rattle.expression_elaborator.specs.Code.{Gives};
 ghost use Rattle.expression_elaborator.specs.Views.{state_of};
-ghost use Rattle.state_types.specs.PlaceTypes.{type_at};
+ghost use Rattle.state_types.specs.PlaceTypes.{PlacesRise, type_at};
 ghost use Rattle.typed_core.specs.Limits.{Misfit, within};
 ghost use Rattle.typed_core.specs.States as spec;
 ghost use Rattle.xan_lin.specs.declared.term.LimitKind.TheVariants as limit;
@@ -63,17 +64,39 @@ pub fn place_of(x: u32) -> Result<u16, Stop>
     }
 }
 
-/// The type of a variable among those of places.
-pub fn type_of(x: u32, mut entries: &[(u16, Ty)]) -> Result<Ty, Stop>
-    ensures { Gives (λ ty. ty) result (spec.there (type_at x entries.entry.now)) }
+/// How many of the entries are of variables before this one.
+fn count_before(entries: &[(u16, Ty)], x: u32) -> usize
+    requires { PlacesRise 0 entries.now }
+    ensures point { IsPartitionPoint (λ e. nat_lt e.0 x ≡ true) (λ e. nat_lt e.0 x ≡ false) entries.now result }
+    ensures within { result ≤ length entries.now }
 {
-    while let [entry, later @ ..] = entries {
-        if u32::from(entry.0) == x {
-            return Ok(entry.1.copy());
-        }
-        entries = later;
+    entries.partition_point(|entry| u32::from(entry.0) < x)
+}
+
+/// The type that is listed for the variable.
+fn type_among(entries: &[(u16, Ty)], x: u32) -> Option<&Ty>
+    requires { PlacesRise 0 entries.now }
+    ensures { option_map (λ ty. ty.now) result ≡ type_at x entries.now }
+{
+    let at = count_before(entries, x);
+    let Some((found, ty)) = entries.get(at) else {
+        return None;
+    };
+    if u32::from(*found) == x {
+        Some(ty)
+    } else {
+        None
     }
-    Err(Stop::Misfit)
+}
+
+/// The type of a variable among those of places.
+pub fn type_of(x: u32, places: &Places) -> Result<Ty, Stop>
+    ensures { Gives (λ ty. ty) result (spec.there (type_at x places.now)) }
+{
+    match type_among(places.entries(), x) {
+        Some(ty) => Ok(ty.copy()),
+        None => Err(Stop::Misfit),
+    }
 }
 
 /// The rows of a context, over so many variables, which are no fewer.

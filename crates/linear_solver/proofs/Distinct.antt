@@ -5,7 +5,7 @@ use Rattle.std.specs.Option.{is_some}
 use Rattle.std.proofs.lemmas.Option.{slice_get_within, get_or_from_slice_get}
 use Rattle.xan_lin.specs.Linear.{Linear}
 use Rattle.xan_lin.specs.declared.term.Term.{Term}
-use Rattle.index_sorts.proofs.Knowing.{Decides-same_form}
+use Rattle.index_sorts.proofs.KnownRows.{Decides-same_form}
 use Rattle.proof_lines.proofs.Positions.{position_passes, is_some-position}
 use Rattle.linear_solver.specs.Systems.{Row, same_terms, lesser, placed, holds, settle}
 use Rattle.linear_solver.specs.Reducing.{AreDistinct, IsPlace}

@@ -13,7 +13,7 @@ use Rattle.proof_lines.proofs.Proper.{both}
 use Rattle.proof_lines.proofs.Quotients.{floor-rest}
 use Rattle.linear_solver.specs.Divisors.{gcd, divisor_from, divisor}
 use Rattle.linear_solver.proofs.Euclid.{gcd_is}
-use Rattle.linear_solver.proofs.Dividing.{divisor-start, divisor-divides}
+use Rattle.linear_solver.proofs.CommonDivisors.{divisor-start, divisor-divides}
 
 -- a number that divides all coefficients
 abbrev Divides : ℕ → List Term → Type 0

@@ -9,8 +9,10 @@ use Rattle.linear_solver.specs.declared.step.Step.{Step}
 use Rattle.linear_solver.specs.Systems.{Row, linear_of, reduced_onto, with_sign}
 use Rattle.linear_solver.specs.Numbering.{System, numbered}
 use Rattle.linear_solver.specs.Reducing.{AreDistinct, IsPlace}
-use Rattle.linear_solver.specs.Region.{AreRising, AreIn, AreLines, AreSettled, IsSettled, sparse, linear_in, row_in, no_row, stored_row, rows_of, NumberedSides, numbered_sides, without, placed_from, moved, empty_pool, Work, work_at, Lies, idle}
+use Rattle.linear_solver.specs.Region.{AreRising, AreIn, AreLines, AreSettled, IsSettled, IsSigned, AreSigned, AreSignsIn, sparse, spread_cells, linear_in, row_in, no_row, stored_row, rows_of, NumberedSides, numbered_sides, without, placed_from, moved, empty_pool, Work, work_at, Lies, idle}
+use Rattle.linear_solver.specs.Signing.{AreSigns}
 use Rattle.linear_solver.proofs.Sparse.{sparse-front}
+use Rattle.linear_solver.proofs.SignLemmas.{signs_in, signed-at, signed-push, signed-set, signed-without, signed-numbered, signed-placed}
 use Rattle.linear_solver.proofs.Distinct.{distinct-set, equal_terms}
 use Rattle.linear_solver.proofs.Reducible.{Kept, keeps, settled-push, Numbered, numbers_keep}
 use Rattle.linear_solver.proofs.Stores.{length-rows_of, rows_of-at, rows_of-push, rows_of-set, rows_of-none, length-set, in-bound, in-more, in-at, in-push, in-set, in-without, rows_of-more, rows_of-taken, last_row, rows_of-without, numbered_of, in-numbered, length-sides, length-moved, take-moved, rows_of-moved, in-placed}
@@ -76,6 +78,20 @@ module _ (pool : Pool) (base : ℕ) (vars : List ℕ) (rows made : List Stored) 
       subst (λ (v : Work). Reads v.vars cells (get_or v.made at no_row)) view
       (reads_at vars pool.rows made at count cells s h wide (is ∙ ap (λ t. take count (drop 1 (get_or pool.rows t.place []))) there) l.settled_made)
 
+  pub row_signs : (at : ℕ) (s : Stored) → at < length rows → s ≡ get_or rows at s → AreSignsIn w.vars s.side.signs (get_or w.rows at no_row)
+  row_signs at s h there =
+      let row : get_or (rows_of vars pool.rows rows) at no_row ≡ stored_row vars pool.rows s = rows_of-at vars pool.rows rows at s h ∙ ap (stored_row vars pool.rows) (sym there) in
+      subst (λ (v : Work). AreSignsIn v.vars s.side.signs (get_or v.rows at no_row)) view
+      (signs_in vars (drop 1 (get_or pool.rows s.place [])) s.side.signs (get_or (rows_of vars pool.rows rows) at no_row) l.rising (ap (λ r. r.terms) row)
+      (subst (λ (t : Stored). AreSigns t.side.signs (spread_cells vars (get_or (rows_of vars pool.rows rows) at no_row).terms)) (sym there)
+      (signed-at vars rows (rows_of vars pool.rows rows) at s h (length-rows_of vars pool.rows rows) l.signed_rows)))
+
+  pub made_signs : (at : ℕ) (s : Stored) → at < length made → s ≡ get_or made at s → AreSigns s.side.signs (spread_cells w.vars (get_or w.made at no_row).terms)
+  made_signs at s h there =
+      subst (λ (v : Work). AreSigns s.side.signs (spread_cells v.vars (get_or v.made at no_row).terms)) view
+      (subst (λ (t : Stored). AreSigns t.side.signs (spread_cells vars (get_or (rows_of vars pool.rows made) at no_row).terms)) (sym there)
+      (signed-at vars made (rows_of vars pool.rows made) at s h (length-rows_of vars pool.rows made) l.signed_made))
+
   pub row_beside : (at : ℕ) (s : Stored) → at < length rows → s ≡ get_or rows at s → get_or w.rows at no_row ≡ stored_row vars pool.rows s
   row_beside at s h there =
       ap (λ v. get_or v.rows at no_row) (sym view) ∙ rows_of-at vars pool.rows rows at s h ∙ ap (stored_row vars pool.rows) (sym there)
@@ -126,8 +142,8 @@ module _ (pool new : Pool) (base : ℕ) (vars : List ℕ) (rows made more : List
   put-length : length new.rows ≡ length pool.rows + 1
   put-length = ap (λ q. length q.rows) p.change ∙ length-append pool.rows (p.row ∷ [])
 
-  pub puts_lie : AreDistinct (rows_of vars pool.rows made ++ row_in vars cells s.side ∷ []) → IsSettled (linear_in vars cells) → Lies new base vars rows more
-  puts_lie d settled = record {
+  pub puts_lie : AreDistinct (rows_of vars pool.rows made ++ row_in vars cells s.side ∷ []) → IsSettled (linear_in vars cells) → IsSigned vars cells s.side → Lies new base vars rows more
+  puts_lie d settled signed = record {
     width = ap (λ q. q.width) p.change ∙ p.lies.width;
     within = let room = p.room in omega (arith, put-length, ap (λ q. q.capacity) p.change);
     count = let count = p.lies.count in omega (arith, put-length, ap length p.more_is, length-append made (s ∷ []));
@@ -141,6 +157,9 @@ module _ (pool new : Pool) (base : ℕ) (vars : List ℕ) (rows made more : List
     distinct_rows = subst AreDistinct (sym put-rows) p.lies.distinct_rows;
     distinct_made = subst AreDistinct (sym put-made) d;
     lines = subst AreLines (sym put-rows) p.lies.lines;
+    signed_rows = subst (AreSigned vars rows) (sym put-rows) p.lies.signed_rows;
+    signed_made = subst (AreSigned vars more) (sym put-made) (subst (λ (ms : List Stored). AreSigned vars ms (rows_of vars pool.rows made ++ row_in vars cells s.side ∷ [])) (sym p.more_is)
+        (signed-push vars made (rows_of vars pool.rows made) s (row_in vars cells s.side) p.lies.signed_made (length-rows_of vars pool.rows made) signed));
   }
 
 -- ---- another row in its place
@@ -177,8 +196,8 @@ module _ (pool : Pool) (base : ℕ) (vars : List ℕ) (rows made after : List St
   pub sets : work_at pool base vars rows after ≡ record (work_at pool base vars rows made) { made = set (rows_of vars pool.rows made) k (row_in vars cells s.side) }
   sets = ap (λ rs. let w : Work = record { pool = (work_at pool base vars rows made).pool; vars = vars; rows = rows_of vars pool.rows rows; made = rs } in w) set-made
 
-  pub sets_lie : IsSettled (linear_in vars cells) → Lies pool base vars rows after
-  sets_lie settled = record {
+  pub sets_lie : IsSettled (linear_in vars cells) → IsSigned vars cells s.side → Lies pool base vars rows after
+  sets_lie settled signed = record {
     width = p.lies.width;
     within = p.lies.within;
     count = let count = p.lies.count in omega (arith, ap length p.after_is, length-set made k s);
@@ -193,17 +212,20 @@ module _ (pool : Pool) (base : ℕ) (vars : List ℕ) (rows made after : List St
         (distinct-set (rows_of vars pool.rows made) k no_row (row_in vars cells s.side) p.lies.distinct_made
         (sym (equal_terms (get_or (rows_of vars pool.rows made) k no_row).terms (linear_in vars cells).terms (same.1 no_row))));
     lines = p.lies.lines;
+    signed_rows = p.lies.signed_rows;
+    signed_made = subst (AreSigned vars after) (sym set-made) (subst (λ (ms : List Stored). AreSigned vars ms (set (rows_of vars pool.rows made) k (row_in vars cells s.side))) (sym p.after_is)
+        (signed-set vars made (rows_of vars pool.rows made) k s (row_in vars cells s.side) p.lies.signed_made signed));
   }
 
 -- ---- the rows without a variable
 
 module _ (pool : Pool) (base : ℕ) (vars : List ℕ) (rows more : List Stored) (column : ℕ) (l : Lies pool base vars rows []) (h : column < length vars)
-    (more_is : more ≡ without pool.rows column rows) where
+    (more_is : more ≡ without column rows) where
   keep-kept : Kept (rows_of vars pool.rows rows) (with_sign Zero (get_or vars column 0) (rows_of vars pool.rows rows))
   keep-kept = keeps Zero (get_or vars column 0) (rows_of vars pool.rows rows) l.settled_rows l.lines l.distinct_rows
 
   keep-made : rows_of vars pool.rows more ≡ with_sign Zero (get_or vars column 0) (rows_of vars pool.rows rows)
-  keep-made = ap (rows_of vars pool.rows) more_is ∙ rows_of-without vars pool.rows column rows l.rising h
+  keep-made = ap (rows_of vars pool.rows) more_is ∙ rows_of-without vars pool.rows column rows l.rising h l.signed_rows
 
   pub keeps_rows : work_at pool base vars rows more
       ≡ record (work_at pool base vars rows []) { made = reduced_onto [] (with_sign Zero (get_or vars column 0) (rows_of vars pool.rows rows)) }
@@ -217,12 +239,14 @@ module _ (pool : Pool) (base : ℕ) (vars : List ℕ) (rows more : List Stored) 
     rising = l.rising;
     few = l.few;
     in_rows = l.in_rows;
-    in_made = subst (AreIn base (length pool.rows)) (sym more_is) (in-without base (length pool.rows) pool.rows column rows l.in_rows);
+    in_made = subst (AreIn base (length pool.rows)) (sym more_is) (in-without base (length pool.rows) column rows l.in_rows);
     settled_rows = l.settled_rows;
     settled_made = subst AreSettled (sym keep-made) keep-kept.settled;
     distinct_rows = l.distinct_rows;
     distinct_made = subst AreDistinct (sym keep-made) keep-kept.distinct;
     lines = l.lines;
+    signed_rows = l.signed_rows;
+    signed_made = subst (λ (ms : List Stored). AreSigned vars ms (rows_of vars pool.rows ms)) (sym more_is) (signed-without vars pool.rows column rows l.signed_rows);
   }
 
 -- ---- nothing
@@ -242,6 +266,8 @@ lies_none = record {
   distinct_rows = tt;
   distinct_made = tt;
   lines = tt;
+  signed_rows = tt;
+  signed_made = tt;
 }
 
 pub lies_begun : (pool : Pool) (vars : List ℕ) (base : ℕ) → base ≡ length pool.rows → length pool.rows ≤ pool.capacity → pool.width ≡ 65 → AreRising 0 vars → length vars ≤ 64 → Lies pool base vars [] []
@@ -259,6 +285,8 @@ lies_begun pool vars base e within width rising few = record {
   distinct_rows = tt;
   distinct_made = tt;
   lines = tt;
+  signed_rows = tt;
+  signed_made = tt;
 }
 
 pub begins : (pool : Pool) (vars : List ℕ) (base : ℕ) → base ≡ length pool.rows
@@ -272,7 +300,7 @@ begins pool vars base e = ap (λ rs. let w : Work = record { pool = record pool 
 module _ (pool new : Pool) (base : ℕ) (vars : List ℕ) (rows made done : List Stored) (steps after : List Step) (l : Lies pool base vars rows made)
     (front : take base new.rows ≡ take base pool.rows) (width : new.width ≡ pool.width) (capacity : new.capacity ≡ pool.capacity)
     (few : length new.rows ≤ base + 2000) (no_more : length new.rows ≤ length pool.rows)
-    (there : AreIn base (length new.rows) done)
+    (there : AreIn base (length new.rows) done) (signed : AreSigned vars done (rows_of vars new.rows done))
     (is : numbered steps [] (rows_of vars pool.rows made) ≡ (let s : System = record { steps = after; rows = rows_of vars new.rows done } in s)) where
   turn-kept : Numbered (rows_of vars new.rows done)
   turn-kept = subst Numbered (ap (λ s. s.rows) is) (numbers_keep steps (rows_of vars pool.rows made) l.settled_made l.distinct_made)
@@ -302,6 +330,8 @@ module _ (pool new : Pool) (base : ℕ) (vars : List ℕ) (rows made done : List
     distinct_rows = turn-kept.distinct;
     distinct_made = subst AreDistinct (sym (rows_of-none vars new.rows)) tt;
     lines = turn-kept.lines;
+    signed_rows = signed;
+    signed_made = tt;
   }
 
 pub record Turned (pool new : Pool) (base : ℕ) (vars : List ℕ) (done none : List Stored) (w : Work) (steps after : List Step) : Type 0 where
@@ -319,6 +349,9 @@ module _ (pool : Pool) (base : ℕ) (vars : List ℕ) (rows made done none : Lis
 
   done-in : AreIn base (length pool.rows) done
   done-in = subst (λ (n : NumberedSides). AreIn base (length pool.rows) n.sides) is (in-numbered base (length pool.rows) steps [] made l.in_made)
+
+  done-signed : AreSigned vars done (rows_of vars pool.rows done)
+  done-signed = subst (λ (n : NumberedSides). AreSigned vars n.sides (rows_of vars pool.rows n.sides)) is (signed-numbered vars pool.rows steps [] made l.signed_made)
 
   pub done-length : length done ≡ length made
   done-length = omega (arith, ap (λ n. length n.sides) is, length-sides steps [] made)
@@ -338,8 +371,8 @@ module _ (pool : Pool) (base : ℕ) (vars : List ℕ) (rows made done none : Lis
   -- where few places have no row
   pub turn_stays : length pool.rows ≤ base + 2000 → Turned pool pool base vars done none w steps after
   turn_stays few =
-      turned-as pool done (turns_lie pool pool base vars rows made done steps after l refl refl refl few (omega arith) done-in done-numbers)
-      (turns pool pool base vars rows made done steps after l refl refl refl few (omega arith) done-in done-numbers) done-numbers
+      turned-as pool done (turns_lie pool pool base vars rows made done steps after l refl refl refl few (omega arith) done-in done-signed done-numbers)
+      (turns pool pool base vars rows made done steps after l refl refl refl few (omega arith) done-in done-signed done-numbers) done-numbers
 
   -- where the rows move together
   module _ (new : Pool) (sides : List Stored) (few : length made ≤ 2000) (sides_is : sides ≡ placed_from base done)
@@ -357,6 +390,10 @@ module _ (pool : Pool) (base : ℕ) (vars : List ℕ) (rows made done none : Lis
         ap (λ q. rows_of vars q.rows sides) change ∙ ap (rows_of vars (take (base + length done) (moved base pool.rows done))) sides_is
         ∙ rows_of-taken vars (moved base pool.rows done) (base + length done) base (base + length done) (placed_from base done) (in-placed base done) (omega arith)
         ∙ rows_of-moved vars base (length pool.rows) pool.rows done done-in (omega arith)
+
+    gather-signed : AreSigned vars sides (rows_of vars new.rows sides)
+    gather-signed = subst (AreSigned vars sides) (sym gather-rows) (subst (λ (ss : List Stored). AreSigned vars ss (rows_of vars pool.rows done)) (sym sides_is)
+        (signed-placed vars base done (rows_of vars pool.rows done) done-signed))
 
     gather-numbers : numbered steps [] (rows_of vars pool.rows made) ≡ (let s : System = record { steps = after; rows = rows_of vars new.rows sides } in s)
     gather-numbers = done-numbers ∙ ap (λ rs. let s : System = record { steps = after; rows = rs } in s) (sym gather-rows)
@@ -380,8 +417,8 @@ module _ (pool : Pool) (base : ℕ) (vars : List ℕ) (rows made done none : Lis
     pub turn_gathers : Turned pool new base vars sides none w steps after
     turn_gathers =
         turned-as new sides
-        (turns_lie pool new base vars rows made sides steps after l gather-front (ap (λ q. q.width) change) (ap (λ q. q.capacity) change) gather-few gather-less gather-in gather-numbers)
-        (turns pool new base vars rows made sides steps after l gather-front (ap (λ q. q.width) change) (ap (λ q. q.capacity) change) gather-few gather-less gather-in gather-numbers)
+        (turns_lie pool new base vars rows made sides steps after l gather-front (ap (λ q. q.width) change) (ap (λ q. q.capacity) change) gather-few gather-less gather-in gather-signed gather-numbers)
+        (turns pool new base vars rows made sides steps after l gather-front (ap (λ q. q.width) change) (ap (λ q. q.capacity) change) gather-few gather-less gather-in gather-signed gather-numbers)
         gather-numbers
 
 -- ---- as the code has them

@@ -16,7 +16,7 @@ use Rattle.linear_solver.specs.Systems.{Row, linear_of, tight, same_terms, lesse
 use Rattle.linear_solver.specs.Choosing.{refuted_by, best_from, refuted_or, look_at}
 use Rattle.linear_solver.specs.Numbering.{with_source, source_line, with_cut, steps_with}
 use Rattle.linear_solver.specs.Elimination.{bears, with_hyps, first_rows}
-use Rattle.linear_solver.proofs.Ranges.{with_sign-few}
+use Rattle.linear_solver.proofs.RowCounts.{with_sign-few}
 
 -- ---- rows
 

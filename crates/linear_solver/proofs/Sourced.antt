@@ -19,7 +19,7 @@ use Rattle.linear_solver.specs.Systems.{Row, linear_of, row_of, divided_by, tigh
 use Rattle.linear_solver.specs.Numbering.{with_source, source_line, with_cut, cut_line, steps_with, line_with, at_line, System, numbered}
 use Rattle.linear_solver.specs.Meaning.{line_meant, lines_meant}
 use Rattle.linear_solver.proofs.Given.{get-more, gives-more, small-at, Stand, stands-more, stands-last}
-use Rattle.linear_solver.proofs.Dividing.{divisor-divides}
+use Rattle.linear_solver.proofs.CommonDivisors.{divisor-divides}
 
 module _ (hyps : List Linear) (goal : Linear) (vars : List ℕ) where
   -- the source gives the row, behind rows that steps give

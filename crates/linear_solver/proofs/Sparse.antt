@@ -7,23 +7,22 @@ use Rattle.std.proofs.Math.Nat.{eq-one_of_dvd-one}
 use Rattle.xan_lin.specs.Terms.{IsRising, with_multiple, sum_terms, scaled_terms}
 use Rattle.xan_lin.specs.Linear.{Linear, is_within, all_within, are_within}
 use Rattle.xan_lin.specs.declared.term.Term.{Term}
-use Rattle.xan_lin.proofs.Sums.{IsRising-lower, IsRising-with_multiple, with_multiple-nonzero}
-use Rattle.xan_lin.proofs.Scaling.{IsRising-scaled}
+use Rattle.xan_lin.proofs.TermSums.{IsRising-lower, IsRising-with_multiple, with_multiple-nonzero}
+use Rattle.xan_lin.proofs.ScaledTerms.{IsRising-scaled}
 use Rattle.xan_lin.proofs.Ring.{zero-mul}
-use Rattle.index_sorts.specs.Known.{no_terms}
 use Rattle.proof_lines.specs.Rows.{floor_over, remainder, is_multiple, divides, divided_term, combination_of}
 use Rattle.proof_lines.specs.Variables.{is_among}
 use Rattle.proof_lines.specs.Check.{is_positive}
-use Rattle.proof_lines.specs.Cells.{combined_cells, is_zero, are_among}
+use Rattle.proof_lines.specs.Cells.{combined_cells, are_among}
 use Rattle.proof_lines.proofs.Different.{same_number, equals_itself}
 use Rattle.proof_lines.proofs.Proper.{both, join}
 use Rattle.proof_lines.proofs.Quotients.{floor-zero, floor-rest}
 use Rattle.linear_solver.specs.Divisors.{gcd, divisor_from, divisor}
 use Rattle.linear_solver.specs.Systems.{coefficient}
 use Rattle.linear_solver.specs.Merging.{behind}
-use Rattle.linear_solver.specs.Region.{AreRising, sparse, linear_in, spread_cells, numbers_divisor, cells_divisor, no_coefficients}
+use Rattle.linear_solver.specs.Region.{AreRising, sparse, linear_in, spread_cells, numbers_divisor, cells_divisor}
 use Rattle.linear_solver.proofs.Euclid.{gcd-end, gcd_is}
-use Rattle.linear_solver.proofs.Sums.{scaled-cons, no_multiple, sum-multiples}
+use Rattle.linear_solver.proofs.RowSums.{scaled-cons, no_multiple, sum-multiples}
 
 -- ---- they rise, and are within the bound
 
@@ -203,31 +202,6 @@ sparse-coefficient low (v ∷ vars) (c ∷ cells) zero d r h = sym (of-same v c 
 sparse-coefficient low (v ∷ vars) (c ∷ cells) (suc k) d r h =
     sparse-coefficient (suc v) vars cells k d r.1 (omega arith)
     ∙ sym (of-other (get_or vars k d) v c (sparse vars cells) (other_number v (get_or vars k d) (let above = rising-at (suc v) vars k d r.1 (omega arith) in omega arith)))
-
--- ---- which cells are 0
-
-not_zero : (c : ℤ) → c ≢ pos 0 → is_zero c ≡ false
-not_zero c h = go (is_zero c) refl
-  where
-    go : (b : Bool) → is_zero c ≡ b → b ≡ false
-    go true e = absurd (h ((Decides-int_eq c (pos 0)).0 e))
-    go false e = refl
-
-multiple-none : (v : ℕ) (c : ℤ) (ts : List Term) (b : Bool) → b ≡ no_terms ts → (is_zero c && b) ≡ no_terms (with_multiple v c ts)
-multiple-none v (pos zero) ts b e = e
-multiple-none v (pos (suc n)) ts b e = ap (λ d. d && b) (not_zero (pos (suc n)) (λ e. cc))
-multiple-none v (negsuc n) ts b e = ap (λ d. d && b) (not_zero (negsuc n) (λ e. cc))
-
-sparse-none : (vars : List ℕ) (cells : List ℤ) → length cells ≡ length vars → list_all is_zero cells ≡ no_terms (sparse vars cells)
-unfolding sparse
-sparse-none [] [] e = refl
-sparse-none [] (c ∷ cells) e = absurd (omega arith)
-sparse-none (v ∷ vars) [] e = absurd (omega arith)
-sparse-none (v ∷ vars) (c ∷ cells) e = multiple-none v c (sparse vars cells) (list_all is_zero cells) (sparse-none vars cells (omega arith))
-
-pub linear-none : (vars : List ℕ) (cells : List ℤ) → length cells ≡ length vars + 1 → no_coefficients cells ≡ no_terms (linear_in vars cells).terms
-linear-none vars [] e = absurd (omega arith)
-linear-none vars (c ∷ cells) e = sparse-none vars cells (omega arith)
 
 -- ---- equal terms are of equal cells
 

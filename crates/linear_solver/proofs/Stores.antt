@@ -1,6 +1,5 @@
 -- Rows that lie in a pool: how they are read, where they lie, and what leaves them as they are.
-use Rattle.std.proofs.Common.{◌≡◌, ℕ, zero, suc, ◌+◌, ◌<◌, ◌≤◌, ℤ, pos, Bool, true, false, cond, List, [], ◌∷◌, ◌++◌, length, take, drop, set, get_or, refl, sym, ◌∙◌, ap, subst, arith}
-use Rattle.std.specs.Ordering.{int_eq}
+use Rattle.std.proofs.Common.{◌≡◌, ℕ, zero, suc, ◌+◌, ◌<◌, ◌≤◌, ℤ, Bool, true, false, cond, List, [], ◌∷◌, ◌++◌, length, take, drop, set, get_or, refl, sym, ◌∙◌, ap, subst, arith}
 use Rattle.std.proofs.lemmas.List.{append_assoc, append-nil, length-append, get_or_append_left, get_or_default, drop_more, drop_all}
 use Rattle.std.proofs.Math.Seq.{get_or-append_seam}
 use Rattle.xan_pool.specs.Pool.{Pool}
@@ -9,8 +8,9 @@ use Rattle.linear_solver.specs.declared.source.Sign.TheVariants.{Zero}
 use Rattle.linear_solver.specs.declared.step.Step.{Step}
 use Rattle.linear_solver.specs.Systems.{Row, has_sign, with_sign}
 use Rattle.linear_solver.specs.Numbering.{System, numbered, steps_with, line_with}
-use Rattle.linear_solver.specs.Region.{AreRising, AreIn, sparse, row_in, no_row, stored_row, rows_of, stored_at, numbered_sides, has_none, without, placed_from, moved}
-use Rattle.linear_solver.proofs.Sparse.{sparse-front, sparse-coefficient}
+use Rattle.linear_solver.specs.Region.{AreRising, AreIn, sparse, row_in, no_row, stored_row, rows_of, stored_at, numbered_sides, has_none, without, placed_from, moved, AreSigned}
+use Rattle.linear_solver.proofs.Sparse.{sparse-front}
+use Rattle.linear_solver.proofs.SignLemmas.{sign_says}
 
 -- ---- rows by their numbers
 
@@ -76,21 +76,21 @@ in-set low high [] k d s e i = i
 in-set low high (t ∷ sides) zero d s e i = (let first = i.0 in omega arith, subst (λ (n : ℕ). AreIn (suc n) high sides) (sym e) i.1)
 in-set low high (t ∷ sides) (suc k) d s e i = (i.0, in-set (suc t.place) high sides k d s e i.1)
 
-pub in-without : (low high : ℕ) (rows : List (List ℤ)) (column : ℕ) (sides : List Stored) → AreIn low high sides → AreIn low high (without rows column sides)
+pub in-without : (low high column : ℕ) (sides : List Stored) → AreIn low high sides → AreIn low high (without column sides)
 unfolding without
-in-without low high rows column [] i = i
-in-without low high rows column (s ∷ sides) i = go (has_none rows column s) (in-without (suc s.place) high rows column sides i.1)
+in-without low high column [] i = i
+in-without low high column (s ∷ sides) i = go (has_none column s) (in-without (suc s.place) high column sides i.1)
   where
-    go : (b : Bool) → AreIn (suc s.place) high (without rows column sides) → AreIn low high (cond b (s ∷ without rows column sides) (without rows column sides))
+    go : (b : Bool) → AreIn (suc s.place) high (without column sides) → AreIn low high (cond b (s ∷ without column sides) (without column sides))
     go true rest = (i.0, rest)
-    go false rest = in-lower low (suc s.place) high (without rows column sides) (let first = i.0 in omega arith) rest
+    go false rest = in-lower low (suc s.place) high (without column sides) (let first = i.0 in omega arith) rest
 
-pub length-without : (rows : List (List ℤ)) (column : ℕ) (sides : List Stored) → length (without rows column sides) ≤ length sides
+pub length-without : (column : ℕ) (sides : List Stored) → length (without column sides) ≤ length sides
 unfolding without
-length-without rows column [] = omega arith
-length-without rows column (s ∷ sides) = go (has_none rows column s) (length-without rows column sides)
+length-without column [] = omega arith
+length-without column (s ∷ sides) = go (has_none column s) (length-without column sides)
   where
-    go : (b : Bool) → length (without rows column sides) ≤ length sides → length (cond b (s ∷ without rows column sides) (without rows column sides)) ≤ length (s ∷ sides)
+    go : (b : Bool) → length (without column sides) ≤ length sides → length (cond b (s ∷ without column sides) (without column sides)) ≤ length (s ∷ sides)
     go true h = omega arith
     go false h = omega arith
 
@@ -140,17 +140,15 @@ last_row vars rows row cells s at front wide first =
 
 -- ---- rows without a variable
 
-pub rows_of-without : (vars : List ℕ) (rows : List (List ℤ)) (column : ℕ) (sides : List Stored) → AreRising 0 vars → column < length vars
-    → rows_of vars rows (without rows column sides) ≡ with_sign Zero (get_or vars column 0) (rows_of vars rows sides)
+pub rows_of-without : (vars : List ℕ) (rows : List (List ℤ)) (column : ℕ) (sides : List Stored) → AreRising 0 vars → column < length vars → AreSigned vars sides (rows_of vars rows sides)
+    → rows_of vars rows (without column sides) ≡ with_sign Zero (get_or vars column 0) (rows_of vars rows sides)
 unfolding rows_of without with_sign
-rows_of-without vars rows column [] rising h = refl
-rows_of-without vars rows column (s ∷ sides) rising h =
-    go (has_none rows column s) (has_sign Zero (get_or vars column 0) (stored_row vars rows s)) test (rows_of-without vars rows column sides rising h)
+rows_of-without vars rows column [] rising h a = refl
+rows_of-without vars rows column (s ∷ sides) rising h a =
+    go (has_none column s) (has_sign Zero (get_or vars column 0) (stored_row vars rows s)) (sign_says vars (drop 1 (get_or rows s.place [])) s.side.signs rising a.0 Zero column h)
+    (rows_of-without vars rows column sides rising h a.1)
   where
-    test : has_none rows column s ≡ has_sign Zero (get_or vars column 0) (stored_row vars rows s)
-    test = ap (λ c. int_eq c (pos 0)) (sparse-coefficient 0 vars (drop 1 (get_or rows s.place [])) column 0 rising h)
-
-    go : (b c : Bool) → b ≡ c → rows_of vars rows (without rows column sides) ≡ with_sign Zero (get_or vars column 0) (rows_of vars rows sides) → rows_of vars rows (cond b (s ∷ without rows column sides) (without rows column sides))
+    go : (b c : Bool) → b ≡ c → rows_of vars rows (without column sides) ≡ with_sign Zero (get_or vars column 0) (rows_of vars rows sides) → rows_of vars rows (cond b (s ∷ without column sides) (without column sides))
         ≡ cond c (stored_row vars rows s ∷ with_sign Zero (get_or vars column 0) (rows_of vars rows sides)) (with_sign Zero (get_or vars column 0) (rows_of vars rows sides))
     go true true e t = ap (λ rs. stored_row vars rows s ∷ rs) t
     go true false e t = cc
@@ -277,31 +275,31 @@ pub kept_few : (b : Bool) (made new : List Stored) (s : Stored) → new ≡ made
 kept_few true made new s e = omega (arith, ap length e, length-append made (s ∷ []))
 kept_few false made new s e = omega (arith, ap length e, length-append made (let none : List Stored = [] in none))
 
-without-cons : (rows : List (List ℤ)) (column : ℕ) (s : Stored) (sides : List Stored) → without rows column (s ∷ sides) ≡ cond (has_none rows column s) (s ∷ without rows column sides) (without rows column sides)
+without-cons : (column : ℕ) (s : Stored) (sides : List Stored) → without column (s ∷ sides) ≡ cond (has_none column s) (s ∷ without column sides) (without column sides)
 unfolding without
-without-cons rows column s sides = refl
+without-cons column s sides = refl
 
-without-none : (rows : List (List ℤ)) (column : ℕ) → without rows column [] ≡ []
+without-none : (column : ℕ) → without column [] ≡ []
 unfolding without
-without-none rows column = refl
+without-none column = refl
 
-pub without_more : (rows : List (List ℤ)) (column at : ℕ) (sides made new all : List Stored) (s : Stored) → at < length sides → s ≡ get_or sides at s
-    → new ≡ made ++ cond (has_none rows column s) (s ∷ []) [] → made ++ without rows column (drop at sides) ≡ all → new ++ without rows column (drop (at + 1) sides) ≡ all
-without_more rows column at sides made new all s h there change same =
-    ap (λ xs. xs ++ rest) change ∙ append_assoc made (cond (has_none rows column s) (s ∷ []) []) rest ∙ ap (λ xs. made ++ xs) (go (has_none rows column s))
-    ∙ ap (λ xs. made ++ xs) (sym (without-cons rows column s (drop (at + 1) sides)))
-    ∙ ap (λ xs. made ++ without rows column xs) (ap (λ t. t ∷ drop (at + 1) sides) there ∙ sym (drop_more sides at s h)) ∙ same
+pub without_more : (column at : ℕ) (sides made new all : List Stored) (s : Stored) → at < length sides → s ≡ get_or sides at s
+    → new ≡ made ++ cond (has_none column s) (s ∷ []) [] → made ++ without column (drop at sides) ≡ all → new ++ without column (drop (at + 1) sides) ≡ all
+without_more column at sides made new all s h there change same =
+    ap (λ xs. xs ++ rest) change ∙ append_assoc made (cond (has_none column s) (s ∷ []) []) rest ∙ ap (λ xs. made ++ xs) (go (has_none column s))
+    ∙ ap (λ xs. made ++ xs) (sym (without-cons column s (drop (at + 1) sides)))
+    ∙ ap (λ xs. made ++ without column xs) (ap (λ t. t ∷ drop (at + 1) sides) there ∙ sym (drop_more sides at s h)) ∙ same
   where
     rest : List Stored
-    rest = without rows column (drop (at + 1) sides)
+    rest = without column (drop (at + 1) sides)
 
     go : (b : Bool) → cond b (s ∷ []) [] ++ rest ≡ cond b (s ∷ rest) rest
     go true = refl
     go false = refl
 
-pub without_all : (rows : List (List ℤ)) (column at : ℕ) (sides made all : List Stored) → length sides ≤ at → made ++ without rows column (drop at sides) ≡ all → made ≡ all
-without_all rows column at sides made all h same =
-    sym (append-nil made) ∙ ap (λ xs. made ++ xs) (sym (without-none rows column)) ∙ ap (λ xs. made ++ without rows column xs) (sym (drop_all at sides h)) ∙ same
+pub without_all : (column at : ℕ) (sides made all : List Stored) → length sides ≤ at → made ++ without column (drop at sides) ≡ all → made ≡ all
+without_all column at sides made all h same =
+    sym (append-nil made) ∙ ap (λ xs. made ++ xs) (sym (without-none column)) ∙ ap (λ xs. made ++ without column xs) (sym (drop_all at sides h)) ∙ same
 
 -- so far the rows move together
 pub record Moves (base at : ℕ) (old rows : List (List ℤ)) (sides before placed : List Stored) : Type 0 where

@@ -16,7 +16,7 @@ use Rattle.linear_solver.specs.Elimination.{ended, rounds}
 use Rattle.linear_solver.specs.Solving.{Answers}
 use Rattle.linear_solver.specs.Region.{Work, HasRoom, IsOpen}
 use Rattle.linear_solver.proofs.Room.{next_few, taken-few}
-use Rattle.linear_solver.proofs.Rounding.{rounds_end, rounds_last, rounds_fail, rounds_more}
+use Rattle.linear_solver.proofs.RoundProgress.{rounds_end, rounds_last, rounds_fail, rounds_more}
 
 -- ---- the variable that is taken is one of the variables
 

@@ -13,7 +13,7 @@ use Rattle.linear_solver.specs.Elimination.{in_cone, from_start, refutation}
 use Rattle.linear_solver.specs.Solving.{Answers}
 use Rattle.linear_solver.specs.Region.{AreClosed, risen}
 use Rattle.linear_solver.proofs.Risen.{cone-risen, closed-risen, among_all-risen}
-use Rattle.linear_solver.proofs.Closing.{cone-closes, cone-start}
+use Rattle.linear_solver.proofs.ConeClosure.{cone-closes, cone-start}
 
 pub past_magnitude : (hyps : List Linear) (goal : Linear) (large : TooLarge) (steps : List Step) → negated_row_of goal ≡ Err large → Answers (Err limit.Magnitude) steps (refutation hyps goal)
 unfolding refutation

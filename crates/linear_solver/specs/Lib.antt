@@ -7,7 +7,9 @@ pub mod Cone
 pub mod Elimination
 pub mod Meaning
 pub mod Merging
+pub mod Signing
 pub mod Region
+pub mod FoundVariables
 pub mod Buffers
 pub mod LineBuffers
 pub mod Reducing

@@ -1,19 +1,22 @@
 -- How the rows of systems lie in a region of cells: the constant, and then a coefficient for each variable, by rising variable.
 use Rattle.std.specs.Prelude.{◌≡◌, ℕ, suc, ◌+◌, ◌<◌, ◌≤◌, ℤ, pos, Bool, true, false, ◌&&◌, int_le, Option, Some, None, List, [], ◌∷◌, ◌++◌, length, take, drop, slice_set, vec_capacity, unsigned_abs, nat_lt, if◌then◌else◌}
-use Rattle.std.specs.List.{list_all, slice_index_or}
-use Rattle.std.specs.Ordering.{int_eq}
+use Rattle.std.specs.List.{slice_index_or}
 use Rattle.index_sorts.specs.Known.{no_terms}
 use Rattle.xan_lin.specs.Terms.{with_multiple}
 use Rattle.xan_lin.specs.Linear.{Linear, all_within, are_within}
 use Rattle.xan_lin.specs.declared.term.Term.{Term}
 use Rattle.xan_pool.specs.Pool.{Pool}
-use Rattle.proof_lines.specs.Cells.{is_zero, are_among}
+use Rattle.proof_lines.specs.Cells.{are_among}
 use Rattle.linear_solver.specs.declared.side.Side.{Side}
 use Rattle.linear_solver.specs.declared.side.Stored.{Stored}
+use Rattle.linear_solver.specs.declared.signs.Signs.{Signs}
 use Rattle.linear_solver.specs.declared.source.Source.TheVariants.{Line}
+use Rattle.linear_solver.specs.declared.source.Sign.{Sign}
+use Rattle.linear_solver.specs.declared.source.Sign.TheVariants.{Zero}
 use Rattle.linear_solver.specs.declared.workspace.Workspace.TheInside.{Inside}
 use Rattle.linear_solver.specs.declared.tight.NewRow.{NewRow}
-use Rattle.linear_solver.specs.Systems.{Row, row_of, linear_of, tight, sum_of_two, sum_source}
+use Rattle.linear_solver.specs.Systems.{Row, row_of, linear_of, tight, has_sign, sum_of_two, sum_source}
+use Rattle.linear_solver.specs.Signing.{AreSigns, sign_at, no_signs}
 use Rattle.linear_solver.specs.Merging.{front_coefficient, behind}
 use Rattle.linear_solver.specs.Elimination.{bears}
 use Rattle.linear_solver.specs.declared.step.Step.{Step}
@@ -73,14 +76,24 @@ unfoldable pub rows_of : List ℕ → List (List ℤ) → List Stored → List R
 rows_of vars rows [] = []
 rows_of vars rows (s ∷ sides) = stored_row vars rows s ∷ rows_of vars rows sides
 
+-- beside the cells stand their signs
+abbrev pub IsSigned : List ℕ → List ℤ → Side → Type 0
+IsSigned vars cells side = AreSigns side.signs (spread_cells vars (linear_in vars cells).terms)
+
+-- these are the signs of the coefficients of a row
+pub record AreSignsIn (vars : List ℕ) (s : Signs) (r : Row) : Type 0 where
+  pub sign : (sign : Sign) (column : ℕ) → column < length vars → sign_at sign s column ≡ has_sign sign (slice_index_or vars column 0) r
+  pub none : no_signs s ≡ no_terms r.terms
+
+-- beside each row stand its signs
+abbrev pub AreSigned : List ℕ → List Stored → List Row → Type 0
+AreSigned vars [] rows = Unit {0}
+AreSigned vars (s ∷ sides) [] = Unit {0}
+AreSigned vars (s ∷ sides) (r ∷ rows) = AreSigns s.side.signs (spread_cells vars r.terms) × AreSigned vars sides rows
+
 -- where there is none
 abbrev pub no_row : Row
 no_row = record { terms = []; constant = pos 0; source = Line 0; by = pos 1 }
-
--- the constant aside, all cells are 0
-abbrev pub no_coefficients : List ℤ → Bool
-no_coefficients [] = true
-no_coefficients (c ∷ cells) = list_all is_zero cells
 
 -- the greatest common divisor of the coefficients, and 0 where there are none
 unfoldable pub numbers_divisor : ℕ → List ℤ → ℕ
@@ -95,7 +108,7 @@ cells_divisor (c ∷ cells) = numbers_divisor 0 cells
 
 -- the row of a system that this step gives
 abbrev pub stored_at : ℕ → Stored → Stored
-stored_at line s = record { side = record { source = Line line; by = pos 1 }; constant = s.constant; place = s.place }
+stored_at line s = record { side = record { source = Line line; by = pos 1; signs = s.side.signs }; constant = s.constant; place = s.place }
 
 -- the rows of a system, and all steps so far
 pub record NumberedSides : Type 0 where
@@ -111,12 +124,12 @@ numbered_sides steps done (s ∷ sides) =
 -- ---- the rows without a variable
 
 -- the coefficient in this column is 0
-abbrev pub has_none : List (List ℤ) → ℕ → Stored → Bool
-has_none rows column s = int_eq (slice_index_or (drop 1 (slice_index_or rows s.place [])) column (pos 0)) (pos 0)
+abbrev pub has_none : ℕ → Stored → Bool
+has_none column s = sign_at Zero s.side.signs column
 
-unfoldable pub without : List (List ℤ) → ℕ → List Stored → List Stored
-without rows column [] = []
-without rows column (s ∷ sides) = if has_none rows column s then s ∷ without rows column sides else without rows column sides
+unfoldable pub without : ℕ → List Stored → List Stored
+without column [] = []
+without column (s ∷ sides) = if has_none column s then s ∷ without column sides else without column sides
 
 -- ---- rows that move together
 
@@ -192,6 +205,8 @@ pub record Lies (pool : Pool) (base : ℕ) (vars : List ℕ) (rows made : List S
   pub distinct_rows : AreDistinct (rows_of vars pool.rows rows)
   pub distinct_made : AreDistinct (rows_of vars pool.rows made)
   pub lines : AreLines (rows_of vars pool.rows rows)
+  pub signed_rows : AreSigned vars rows (rows_of vars pool.rows rows)
+  pub signed_made : AreSigned vars made (rows_of vars pool.rows made)
 
 pub record IsWork (w : Inside) : Type 0 where
   pub lies : Lies w.pool w.base w.vars.items w.rows.items w.made.items
@@ -209,10 +224,11 @@ pub record IsOpen (column : ℕ) (w : Work) : Type 0 where
   pub room : HasRoom w
 
 -- the tightened sum of two rows, where its numbers are within the bound before
-abbrev pub IsSummed : List ℕ → Option NewRow → ℕ → ℕ → Row → Row → Type 0
-IsSummed vars None a b p n = are_within (sum_of_two a b p n).terms (sum_of_two a b p n).constant ≡ false
-IsSummed vars (Some r) a b p n = (are_within (sum_of_two a b p n).terms (sum_of_two a b p n).constant ≡ true)
+abbrev pub IsSummed : List ℕ → Option (Unit {0}) → NewRow → ℕ → ℕ → Row → Row → Type 0
+IsSummed vars None r a b p n = are_within (sum_of_two a b p n).terms (sum_of_two a b p n).constant ≡ false
+IsSummed vars (Some _) r a b p n = (are_within (sum_of_two a b p n).terms (sum_of_two a b p n).constant ≡ true)
     × (row_in vars r.cells.items r.side ≡ tight (sum_source a b p n) (sum_of_two a b p n))
     × (length r.cells.items ≡ length vars + 1)
     × (all_within (linear_in vars r.cells.items).terms ≡ true)
+    × IsSigned vars r.cells.items r.side
     × (nat_lt 1 (divisor (linear_in vars r.cells.items).terms) ≡ false)

@@ -1,15 +1,14 @@
 //! Rows as cells: the constant, and then the coefficient of each variable that bears on the goal, by rising variable.
-ghost use Rattle.std.specs.Prelude.{◌≡◌, ◌↔◌, ◌^◌, ◌<◌, ◌≤◌, ◌+◌, ◌∷◌, ◌++◌, [], pos, true, false, IsTrue, ◌+ℤ◌, ◌*ℤ◌, MatchOption, length, take, drop, map, unsigned_abs, int_lt};
+ghost use Rattle.std.specs.Prelude.{◌≡◌, ◌↔◌, ◌^◌, ◌<◌, ◌≤◌, ◌+◌, ◌∷◌, ◌++◌, ◌&&◌, [], pos, true, false, IsTrue, ◌+ℤ◌, ◌*ℤ◌, MatchOption, length, take, drop, map, unsigned_abs, int_lt};
 ghost use Rattle.std.specs.List.{list_all};
 ghost use Rattle.arrayvec.specs.ArrayVec.{array_vec_len};
 ghost use Rattle.xan_lin.specs.Linear.{is_within};
 ghost use Rattle.proof_lines.specs.Rows.{floor_over};
 ghost use Rattle.proof_lines.specs.Check.{is_positive};
 ghost use Rattle.proof_lines.specs.Cells.{combined_cells, is_zero};
-ghost use Rattle.linear_solver.specs.Region.{no_coefficients};
 
 use crate::divisors::Multipliers;
-use crate::numbers::number_floor;
+use crate::numbers::{is_zero, number_floor};
 use arrayvec::ArrayVec;
 use xan_lin::combine_numbers;
 
@@ -19,32 +18,33 @@ pub(crate) const WIDTH: usize = 65;
 /// The cells of a row that are in use.
 pub(crate) type Cells = ArrayVec<i64, 65>;
 
-/// The sum of two rows of as many coefficients, each times a multiplier, where all its numbers are within the bound of forms. The constants
-/// come first.
-pub(crate) fn combined(
+/// Leaves the sum of two rows of as many coefficients, each times a multiplier, where all its numbers are within the bound of forms. The
+/// constants come first.
+pub(crate) fn combine(
     left_constant: &i64,
     left: &[i64],
     right_constant: &i64,
     right: &[i64],
     by: &Multipliers,
-) -> Option<Cells>
+    cells: &mut Cells,
+) -> Option<()>
     requires few { length left.now ≤ 64 }
     requires alike { length left.now ≡ length right.now }
     requires first { unsigned_abs by.now.first < 2 ^ 63 }
     requires second { unsigned_abs by.now.second < 2 ^ 63 }
     ensures { MatchOption result (list_all is_within (combined_cells by.now.first (left_constant.now ∷ left.now) by.now.second (right_constant.now ∷ right.now)) ≡ false)
-        (λ cells. (cells.items ≡ combined_cells by.now.first (left_constant.now ∷ left.now) by.now.second (right_constant.now ∷ right.now)) × (list_all is_within cells.items ≡ true)) }
+        (λ _. (cells.new.items ≡ combined_cells by.now.first (left_constant.now ∷ left.now) by.now.second (right_constant.now ∷ right.now)) × (list_all is_within cells.new.items ≡ true)) }
 {
-    let mut cells = ArrayVec::new();
-    let Some(()) = put_sum(left_constant, right_constant, by, &mut cells) else {
+    cells.clear();
+    let Some(()) = put_sum(left_constant, right_constant, by, cells) else {
         return None;
     };
     'cells: for place in 0..left.len() {
-        let Some(()) = put_sum(&left[place], &right[place], by, &mut cells) else {
+        let Some(()) = put_sum(&left[place], &right[place], by, cells) else {
             return None;
         };
     }
-    Some(cells)
+    Some(())
 }
 
 // Puts the sum of two numbers, each times a multiplier, where it is within the bound of forms.
@@ -56,9 +56,29 @@ fn put_sum(left: &i64, right: &i64, by: &Multipliers, cells: &mut Cells) -> Opti
         (λ _. (cells.new.items ≡ cells.old.items ++ ((left.now *ℤ by.now.first) +ℤ (right.now *ℤ by.now.second)) ∷ [])
         × (is_within ((left.now *ℤ by.now.first) +ℤ (right.now *ℤ by.now.second)) ≡ true)) }
 {
-    let cell = combine_numbers(left, &by.first, right, &by.second)?;
+    let cell = sum_of(left, right, by)?;
     cells.push(cell);
     Some(())
+}
+
+// The sum of two numbers, each times a multiplier, where it is within the bound of forms. Most are 0.
+fn sum_of(left: &i64, right: &i64, by: &Multipliers) -> Option<i64>
+    requires first { unsigned_abs by.now.first < 2 ^ 63 }
+    requires second { unsigned_abs by.now.second < 2 ^ 63 }
+    ensures { MatchOption result (is_within ((left.now *ℤ by.now.first) +ℤ (right.now *ℤ by.now.second)) ≡ false)
+        (λ cell. (cell ≡ (left.now *ℤ by.now.first) +ℤ (right.now *ℤ by.now.second)) × (is_within ((left.now *ℤ by.now.first) +ℤ (right.now *ℤ by.now.second)) ≡ true)) }
+{
+    if are_zero(left, right) {
+        return Some(0);
+    }
+    combine_numbers(left, &by.first, right, &by.second)
+}
+
+// Whether both numbers are 0.
+fn are_zero(left: &i64, right: &i64) -> bool
+    ensures { result ≡ (is_zero left.now && is_zero right.now) }
+{
+    is_zero(left) && is_zero(right)
 }
 
 /// The cells over a divisor of at least 1, each the floor.
@@ -82,23 +102,6 @@ pub(crate) fn padded(cells: &[i64]) -> [i64; 65]
     let mut row = [0i64; WIDTH];
     row[..cells.len()].copy_from_slice(cells);
     row
-}
-
-/// Whether all coefficients of the row are 0.
-pub(crate) fn has_no_coefficient(cells: &[i64]) -> bool
-    ensures { result ≡ no_coefficients cells.now }
-{
-    let [_constant, coefficients @ ..] = cells else {
-        return true;
-    };
-    are_zero(coefficients)
-}
-
-/// Whether all these numbers are 0.
-pub(crate) fn are_zero(numbers: &[i64]) -> bool
-    ensures { result ≡ list_all is_zero numbers.now }
-{
-    numbers.iter().all(|number| *number == 0)
 }
 
 /// The constant of the row.

@@ -6,7 +6,6 @@ ghost use Rattle.linear_solver.specs.Systems.{with_sign};
 ghost use Rattle.linear_solver.specs.declared.source.Sign.TheVariants.{Positive, Negative};
 ghost use Rattle.linear_solver.specs.Region.{no_row};
 
-use crate::cells::are_zero;
 use crate::counts::{Counts, count_all};
 use crate::source::Look;
 use crate::workspace::Workspace;
@@ -16,9 +15,11 @@ pub(crate) const MOST_ROWS: usize = 2000;
 
 /// A variable, and how many pairs of a positive and a negative row it has.
 #[derive(Clone, Copy, Drop)]
-pub(crate) struct Choice {
-    pub(crate) var: u32,
-    pub(crate) pairs: u64,
+pub struct Choice {
+    /// The variable.
+    pub var: u32,
+    /// How many pairs there are.
+    pub pairs: u64,
 }
 
 /// What a look at the system shows.
@@ -56,7 +57,7 @@ fn cannot_hold(work: &Workspace, at: usize) -> bool
     requires { at < length work.now.rows }
     ensures { result ≡ cannot_hold (slice_index_or work.now.rows at no_row) }
 {
-    are_zero(work.coefficients(at)) && *work.constant(at) < 0
+    work.signs(at).are_none() && *work.constant(at) < 0
 }
 
 // The choice of a variable that so many rows have, and 0 rows do not.

@@ -1,11 +1,11 @@
 //! How many rows of a system have a positive coefficient, and how many a negative one, of all variables in one pass.
-ghost use Rattle.std.specs.Prelude.{◌≡◌, ℕ, ◌≤◌, ◌<◌, ◌+◌, length, pos, if◌then◌else◌};
+ghost use Rattle.std.specs.Prelude.{◌≡◌, ℕ, ◌≤◌, ◌<◌, ◌+◌, length};
+ghost use Rattle.std.specs.Int.{bit_at};
 ghost use Rattle.std.specs.List.{slice_index_or};
-ghost use Rattle.linear_solver.specs.Systems.{is_sign, with_sign};
+ghost use Rattle.linear_solver.specs.Systems.{with_sign};
 ghost use Rattle.linear_solver.specs.declared.source.Sign.TheVariants.{Positive, Negative};
 
-use crate::next::is_sign;
-use crate::source::Sign;
+use crate::signs::next_column;
 use crate::workspace::Workspace;
 
 /// How many rows have a positive coefficient, and how many a negative one, by column.
@@ -27,9 +27,9 @@ pub(crate) fn count_all(work: &Workspace) -> Counts
     let mut positive = zeros();
     let mut negative = zeros();
     'rows: for at in 0..work.count() {
-        let cells = work.coefficients(at);
-        add_signs(Sign::Positive, cells, &mut positive);
-        add_signs(Sign::Negative, cells, &mut negative);
+        let signs = work.signs(at);
+        add_columns(signs.positive, &mut positive);
+        add_columns(signs.negative, &mut negative);
     }
     Counts { positive, negative }
 }
@@ -41,22 +41,14 @@ fn zeros() -> [u32; 64]
     [0; 64]
 }
 
-// Counts one more in each column whose coefficient has this sign.
-fn add_signs(sign: Sign, cells: &[i64], counts: &mut [u32; 64])
-    requires few { length cells.now ≤ 64 }
-    requires small { (column : ℕ) → column < length cells.now → slice_index_or counts.old column 0 ≤ 2000 }
-    ensures { (column : ℕ) → column < length cells.now → slice_index_or counts.new column 0
-        ≡ (if is_sign sign (slice_index_or cells.now column (pos 0)) then slice_index_or counts.old column 0 + 1 else slice_index_or counts.old column 0) }
+// Counts one more in each of these columns.
+fn add_columns(columns: u64, counts: &mut [u32; 64])
+    requires small { (column : ℕ) → slice_index_or counts.old column 0 ≤ 2000 }
+    ensures { (column : ℕ) → slice_index_or counts.new column 0 ≡ slice_index_or counts.old column 0 + bit_at columns column }
 {
-    'cells: for column in 0..cells.len() {
-        counts[column] = raised(counts[column], is_sign(sign, &cells[column]));
+    let mut column = next_column(columns, 0);
+    'columns: while column < 64 {
+        counts[column] += 1;
+        column = next_column(columns, column + 1);
     }
-}
-
-// The count, with one more where it is so.
-fn raised(count: u32, more: bool) -> u32
-    requires { count ≤ 2000 }
-    ensures { result ≡ (if more then count + 1 else count) }
-{
-    if more { count + 1 } else { count }
 }

@@ -8,7 +8,7 @@ ghost use Rattle.linear_solver.specs.declared.source.Source.TheVariants.{New};
 ghost use Rattle.linear_solver.specs.Systems.{tight, settle};
 ghost use Rattle.linear_solver.specs.Divisors.{divisor};
 ghost use Rattle.linear_solver.specs.Elimination.{bears, with_hyps, first_rows};
-ghost use Rattle.linear_solver.specs.Region.{AreRising, AreClosed, HasRoom, linear_in, row_in, spread_cells};
+ghost use Rattle.linear_solver.specs.Region.{AreRising, AreClosed, HasRoom, IsSigned, linear_in, row_in, spread_cells};
 ghost use Rattle.linear_solver.specs.Merging.{front_coefficient, behind};
 ghost use Rattle.arrayvec.specs.ArrayVec.{array_vec_len};
 
@@ -16,9 +16,8 @@ use crate::cells::Cells;
 use crate::cone::touches;
 use crate::source::Source;
 use crate::step::Step;
-use crate::tight::{NewRow, tight};
+use crate::tight::{NewRow, tighten};
 use crate::workspace::Workspace;
-use arrayvec::ArrayVec;
 use xan_lin::{Form, Term};
 
 /// Makes the first system: the hypotheses that bear on the goal, and the opposite of the goal.
@@ -33,7 +32,8 @@ pub(crate) fn first_rows(hyps: &[Form], start: &Form, work: &mut Workspace)
     ensures { work.new ≡ record work.old { made = first_rows work.old.vars hyps.now start.now } }
 {
     with_hyps(hyps, work);
-    let row = row_of(work.vars(), start, Source::New(Step::Goal));
+    let mut row = NewRow::blank();
+    make_row(work.vars(), start, Source::New(Step::Goal), &mut row);
     work.settle(&row);
 }
 
@@ -61,8 +61,9 @@ fn with_hyp(at: u32, row: &Form, work: &mut Workspace)
     ensures { work.new ≡ record work.old { made = (if bears work.old.vars row.now then settle work.old.made (tight (New (Hyp at)) row.now) else work.old.made) } }
 {
     if bears(work.vars(), row) {
-        let row = row_of(work.vars(), row, Source::New(Step::Hyp(at)));
-        work.settle(&row);
+        let mut made = NewRow::blank();
+        make_row(work.vars(), row, Source::New(Step::Hyp(at)), &mut made);
+        work.settle(&made);
     }
 }
 
@@ -73,36 +74,36 @@ fn bears(vars: &[u32], row: &Form) -> bool
     row.terms().is_empty() || touches(vars, row.terms())
 }
 
-// The tightened row of a form.
-fn row_of(vars: &[u32], form: &Form, source: Source) -> NewRow
+// Makes the tightened row of a form.
+fn make_row(vars: &[u32], form: &Form, source: Source, row: &mut NewRow)
     requires rising { AreRising 0 vars.now }
     requires few { length vars.now ≤ 64 }
     requires among { are_among vars.now form.now.terms ≡ true }
-    ensures row { row_in vars.now result.cells.items result.side ≡ tight source form.now }
-    ensures wide { length result.cells.items ≡ length vars.now + 1 }
-    ensures small { IsTrue (all_within (linear_in vars.now result.cells.items).terms) }
-    ensures divided { nat_lt 1 (divisor (linear_in vars.now result.cells.items).terms) ≡ false }
+    ensures row { row_in vars.now row.new.cells.items row.new.side ≡ tight source form.now }
+    ensures wide { length row.new.cells.items ≡ length vars.now + 1 }
+    ensures small { IsTrue (all_within (linear_in vars.now row.new.cells.items).terms) }
+    ensures divided { nat_lt 1 (divisor (linear_in vars.now row.new.cells.items).terms) ≡ false }
+    ensures signed { IsSigned vars.now row.new.cells.items row.new.side }
 {
-    let cells = spread(vars, form.terms(), &form.constant_part());
-    tight(vars, cells, source)
+    spread(vars, form.terms(), &form.constant_part(), &mut row.cells);
+    tighten(vars, source, row);
 }
 
-// The cells of these terms and this constant.
+// Leaves the cells of these terms and this constant.
 #[tactic(auto, unfolding(crate::specs::Region::spread_cells))]
-fn spread(vars: &[u32], terms: &[Term], constant: &i64) -> Cells
+fn spread(vars: &[u32], terms: &[Term], constant: &i64, cells: &mut Cells)
     requires few { length vars.now ≤ 64 }
-    ensures { result.items ≡ constant.now ∷ spread_cells vars.now terms.now }
+    ensures { cells.new.items ≡ constant.now ∷ spread_cells vars.now terms.now }
 {
-    let mut cells = ArrayVec::new();
+    cells.clear();
     cells.push(*constant);
     let mut later_vars = vars;
     let mut later_terms = terms;
     'vars: while let [var, more @ ..] = later_vars {
-        put_front(later_terms, *var, &mut cells);
+        put_front(later_terms, *var, cells);
         later_terms = behind(later_terms, *var);
         later_vars = more;
     }
-    cells
 }
 
 // Puts the coefficient of a variable in the first term.

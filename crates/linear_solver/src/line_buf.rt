@@ -8,6 +8,7 @@ ghost use Rattle.linear_solver.specs.Solving.{Answers};
 
 use crate::answer::Answer;
 use crate::cone::find_cone;
+use crate::found::Found;
 use crate::rounds::in_cone;
 use crate::step::Step;
 use crate::steps::Steps;
@@ -19,9 +20,6 @@ use std::marker::Model;
 use xan_lin::{Form, LimitKind, Memory};
 use xan_pool::RowPool;
 
-// How many variables a walk over the hypotheses of a goal can come to find.
-const MOST_FOUND: usize = 8272;
-
 /// A buffer with room for 257,026 steps, which no elimination passes, and for all else that an elimination needs beside its pool. It is seen
 /// as the list of its steps. The room is taken once and kept.
 #[derive(Drop)]
@@ -29,7 +27,7 @@ pub struct LineBuf {
     steps: Steps,
     work: Workspace,
     // The variables that bear on a goal, as they are found.
-    found: Vec<u32>,
+    found: Found,
 }
 
 impl Model for LineBuf {
@@ -51,9 +49,7 @@ impl LineBuf {
     {
         let steps = Steps::new(alloc)?;
         let work = Workspace::new(alloc)?;
-        let Ok(found) = Vec::with_capacity(alloc, MOST_FOUND) else {
-            return Err(Memory);
-        };
+        let found = Found::new(alloc)?;
         Ok(LineBuf { steps, work, found })
     }
 
@@ -93,7 +89,7 @@ impl LineBuf {
         if !find_cone(hyps, &start, &mut self.found) {
             return Err(LimitKind::Cone);
         }
-        self.work.begin(pool, self.found.as_slice());
+        self.work.begin(pool, self.found.all());
         let answer = in_cone(hyps, &start, &mut self.work, &mut self.steps);
         self.work.end(pool);
         answer

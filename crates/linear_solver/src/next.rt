@@ -2,17 +2,17 @@
 ghost use Rattle.std.specs.Prelude.{◌≡◌, ◌+◌, ◌^◌, ◌<◌, ◌≤◌, [], length, IsTrue, MatchOption, false, true, if◌then◌else◌, Ok, Err};
 ghost use Rattle.std.specs.List.{slice_index_or};
 ghost use Rattle.xan_lin.specs.Linear.{Linear, are_within, all_within};
-ghost use Rattle.linear_solver.specs.Systems.{reduced_onto, tight, linear_of, has_sign, is_sign, with_sign, size, sum_of_two, sum_source, limited, settle, with_sum, with_sums, with_all_sums, next_rows};
+ghost use Rattle.linear_solver.specs.Systems.{reduced_onto, tight, linear_of, has_sign, with_sign, size, sum_of_two, sum_source, limited, settle, with_sum, with_sums, with_all_sums, next_rows};
 ghost use Rattle.linear_solver.specs.declared.source.Sign.TheVariants.{Positive, Negative, Zero};
 ghost use Rattle.linear_solver.specs.Reducing.{Gives};
 ghost use Rattle.linear_solver.specs.Region.{IsOpen, no_row, linear_in, row_in, IsSummed};
 
-use crate::cells::combined;
+use crate::cells::combine;
 use crate::choose::MOST_ROWS;
 use crate::divisors::multipliers_for;
 use crate::source::{Sign, Source};
 use crate::step::Step;
-use crate::tight::{NewRow, tight};
+use crate::tight::{NewRow, tighten};
 use crate::workspace::Workspace;
 use xan_lin::LimitKind;
 
@@ -124,8 +124,9 @@ fn with_sum(
     ensures kept { work.new ≡ record work.old { made = work.new.made } }
     ensures few { result ≡ Ok tt → length work.new.made ≤ 2000 }
 {
-    match summed(column, positive, negative, work) {
-        Some(row) => {
+    let mut row = NewRow::blank();
+    match sum_up(column, positive, negative, work, &mut row) {
+        Some(()) => {
             work.settle(&row);
             limited(work)
         }
@@ -145,23 +146,30 @@ fn limited(work: &Workspace) -> Result<(), LimitKind>
     }
 }
 
-// The sum of two rows in which the variable goes out, tightened. `None` comes where a number of it is past the bound before that.
-fn summed(column: usize, positive: usize, negative: usize, work: &Workspace) -> Option<NewRow>
+// Leaves the sum of two rows in which the variable goes out, tightened. `None` comes where a number of it is past the bound before that.
+fn sum_up(
+    column: usize,
+    positive: usize,
+    negative: usize,
+    work: &Workspace,
+    row: &mut NewRow,
+) -> Option<()>
     requires column { column < length work.now.vars }
     requires live { positive < length work.now.rows }
     requires other { negative < length work.now.rows }
-    ensures { IsSummed work.now.vars result (size (slice_index_or work.now.vars column 0) (slice_index_or work.now.rows positive no_row))
+    ensures { IsSummed work.now.vars result row.new (size (slice_index_or work.now.vars column 0) (slice_index_or work.now.rows positive no_row))
         (size (slice_index_or work.now.vars column 0) (slice_index_or work.now.rows negative no_row))
         (slice_index_or work.now.rows positive no_row) (slice_index_or work.now.rows negative no_row) }
 {
     let vars = work.vars();
     let by = multipliers_for(size(column, positive, work), size(column, negative, work));
-    let Some(cells) = combined(
+    let Some(()) = combine(
         work.constant(positive),
         work.coefficients(positive),
         work.constant(negative),
         work.coefficients(negative),
         &by,
+        &mut row.cells,
     ) else {
         return None;
     };
@@ -171,7 +179,8 @@ fn summed(column: usize, positive: usize, negative: usize, work: &Workspace) -> 
         right_by: by.second,
         right: work.line(negative),
     };
-    Some(tight(vars, cells, Source::New(step)))
+    tighten(vars, Source::New(step), row);
+    Some(())
 }
 
 // The magnitude of the coefficient of the variable in a row.
@@ -191,16 +200,6 @@ fn has_sign(sign: Sign, column: usize, at: usize, work: &Workspace) -> bool
     requires live { at < length work.now.rows }
     ensures { result ≡ has_sign sign (slice_index_or work.now.vars column 0) (slice_index_or work.now.rows at no_row) }
 {
-    is_sign(sign, work.coefficient(at, column))
-}
-
-/// Whether the number has this sign.
-pub(crate) fn is_sign(sign: Sign, number: &i64) -> bool
-    ensures { result ≡ is_sign sign number.now }
-{
-    match sign {
-        Sign::Positive => *number > 0,
-        Sign::Negative => *number < 0,
-        Sign::Zero => *number == 0,
-    }
+    let _vars = work.vars();
+    work.signs(at).has(sign, column)
 }

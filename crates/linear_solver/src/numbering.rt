@@ -33,7 +33,11 @@ fn stored_at(line: u32, row: &Stored) -> Stored
 {
     let source = Source::Line(line);
     Stored {
-        side: Side { source, by: 1 },
+        side: Side {
+            source,
+            by: 1,
+            signs: row.side.signs,
+        },
         constant: row.constant,
         place: row.place,
     }

@@ -4,6 +4,7 @@ ghost use Rattle.std.specs.List.{slice_index_or};
 ghost use Rattle.linear_solver.specs.Region.{AreIn, has_none, without, moved, placed_from};
 
 use crate::side::Stored;
+use crate::source::Sign;
 use std::mem;
 use xan_pool::{Mark, RowId, RowPool};
 
@@ -18,38 +19,26 @@ pub(crate) fn coefficients_of<'a>(pool: &'a RowPool, stored: &Stored, count: usi
     &row[1..count + 1]
 }
 
-// Whether the coefficient of a row in this column is 0.
-fn has_none(pool: &RowPool, stored: &Stored, column: usize) -> bool
-    requires live { stored.now.place < length pool.now.rows }
-    requires within { column + 1 < pool.now.width }
-    ensures { result ≡ has_none pool.now.rows column stored.now }
-{
-    let row = pool.row(RowId(stored.place));
-    row[column + 1] == 0
-}
-
 /// Puts the rows whose coefficient in this column is 0, which stay where they are.
-pub(crate) fn keep(pool: &RowPool, column: usize, rows: &[Stored], made: &mut Vec<Stored>)
-    requires live { AreIn 0 (length pool.now.rows) rows.now }
-    requires within { column + 1 < pool.now.width }
+pub(crate) fn keep(column: usize, rows: &[Stored], made: &mut Vec<Stored>)
+    requires within { column < 64 }
     requires room { length made.old.items + length rows.now ≤ vec_capacity made.old }
-    ensures items { made.new.items ≡ made.old.items ++ without pool.now.rows column rows.now }
+    ensures items { made.new.items ≡ made.old.items ++ without column rows.now }
     ensures capacity { vec_capacity made.old ≤ vec_capacity made.new }
 {
     'rows: for at in 0..rows.len() {
-        keep_one(pool, column, &rows[at], made);
+        keep_one(column, &rows[at], made);
     }
 }
 
 // Puts a row whose coefficient in this column is 0.
-fn keep_one(pool: &RowPool, column: usize, stored: &Stored, made: &mut Vec<Stored>)
-    requires live { stored.now.place < length pool.now.rows }
-    requires within { column + 1 < pool.now.width }
+fn keep_one(column: usize, stored: &Stored, made: &mut Vec<Stored>)
+    requires within { column < 64 }
     requires room { length made.old.items < vec_capacity made.old }
-    ensures items { made.new.items ≡ made.old.items ++ (if has_none pool.now.rows column stored.now then stored.now ∷ [] else []) }
+    ensures items { made.new.items ≡ made.old.items ++ (if has_none column stored.now then stored.now ∷ [] else []) }
     ensures capacity { vec_capacity made.old ≤ vec_capacity made.new }
 {
-    if has_none(pool, stored, column) {
+    if stored.side.signs.has(Sign::Zero, column) {
         put_stored(made, stored);
     }
 }

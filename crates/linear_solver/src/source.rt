@@ -12,7 +12,7 @@ pub(crate) enum Source {
 
 /// What a look at a system shows.
 #[derive(Clone, Copy, Drop)]
-pub(crate) enum Look {
+pub enum Look {
     /// It has too many rows.
     Full,
     /// The row that the step of this number gives cannot hold.

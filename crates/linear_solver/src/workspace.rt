@@ -1,14 +1,16 @@
 //! The room in which the systems of an elimination lie.
-ghost use Rattle.std.specs.Prelude.{◌≡◌, ◌+◌, ◌*◌, ◌<◌, ◌≤◌, [], ◌∷◌, ◌++◌, length, take, drop, slice_set, IsTrue, IfOk, MatchOption, int_lt, nat_lt, true, false};
+ghost use Rattle.std.specs.Prelude.{◌≡◌, List, ◌+◌, ◌*◌, ◌<◌, ◌≤◌, [], ◌∷◌, ◌++◌, length, take, drop, slice_set, IsTrue, IfOk, MatchOption, int_lt, nat_lt, true, false};
 ghost use Rattle.std.specs.List.{list_any, slice_index_or};
 ghost use Rattle.xan_lin.specs.Linear.{all_within};
+ghost use Rattle.xan_lin.specs.declared.term.Term.{Term};
 ghost use Rattle.proof_lines.specs.Cells.{AreDifferent};
 ghost use Rattle.linear_solver.specs.Systems.{linear_of, line_of, same_terms, coefficient, settle, lesser, reduced_onto, with_sign};
 ghost use Rattle.linear_solver.specs.Divisors.{divisor};
 ghost use Rattle.linear_solver.specs.declared.source.Sign.TheVariants.{Zero};
 ghost use Rattle.linear_solver.specs.Numbering.{numbered};
 ghost use Rattle.linear_solver.specs.Reducing.{IsPlace, AreDistinct};
-ghost use Rattle.linear_solver.specs.Region.{AreRising, risen, linear_in, row_in, no_row, idle, HasRoom, IsSettled};
+ghost use Rattle.linear_solver.specs.Signing.{AreSigns};
+ghost use Rattle.linear_solver.specs.Region.{AreRising, risen, linear_in, row_in, no_row, idle, HasRoom, IsSettled, IsSigned, AreSignsIn, spread_cells};
 
 use crate::cells::{Cells, WIDTH, are_same, coefficients, constant_of, padded};
 use crate::choose::MOST_ROWS;
@@ -17,6 +19,7 @@ use crate::hints::Hints;
 use crate::numbering::number;
 use crate::places::{coefficients_of, gather, keep, put_stored};
 use crate::side::Stored;
+use crate::signs::Signs;
 use crate::source::Source;
 use crate::steps::Steps;
 use crate::tight::NewRow;
@@ -180,6 +183,14 @@ impl Workspace {
         &self.coefficients(at)[column]
     }
 
+    /// The signs of the coefficients of a row of the system.
+    pub(crate) fn signs(&self, at: usize) -> Signs
+        requires { at < length self.now.rows }
+        ensures { AreSignsIn self.now.vars result (slice_index_or self.now.rows at no_row) }
+    {
+        self.rows[at].side.signs
+    }
+
     /// Puts the rows without the variable of this column.
     pub(crate) fn keep_without(&mut self, column: usize)
         requires none { self.old.made ≡ [] }
@@ -187,7 +198,7 @@ impl Workspace {
         requires within { column < length self.old.vars }
         ensures { self.new ≡ record self.old { made = reduced_onto [] (with_sign Zero (slice_index_or self.old.vars column 0) self.old.rows) } }
     {
-        keep(&self.pool, column, self.rows.as_slice(), &mut self.made);
+        keep(column, self.rows.as_slice(), &mut self.made);
     }
 
     /// Puts a row behind those in the making, or in place of the one with equal coefficients where its constant is less. A row that holds
@@ -196,16 +207,18 @@ impl Workspace {
         requires few_made { length self.old.made ≤ 2000 }
         requires room { HasRoom self.old }
         requires wide { length row.now.cells.items ≡ length self.old.vars + 1 }
+        requires signed { IsSigned self.old.vars row.now.cells.items row.now.side }
         requires small { IsTrue (all_within (linear_in self.old.vars row.now.cells.items).terms) }
         requires tight { nat_lt 1 (divisor (linear_in self.old.vars row.now.cells.items).terms) ≡ false }
         ensures { self.new ≡ record self.old { made = settle self.old.made (row_in self.old.vars row.now.cells.items row.now.side) } }
     {
+        let _vars = self.vars();
         if row.holds() {
             return;
         }
-        let hash = hash(row.cells.as_slice());
+        let hash = hash(row.cells.as_slice(), &row.side.signs);
         self.tell_distinct();
-        match self.guessed(&row.cells, hash) {
+        match self.guessed(row, hash) {
             Some(place) => self.lower(place, row),
             None => self.settle_searched(row, hash),
         }
@@ -236,8 +249,26 @@ impl Workspace {
         coefficients_of(&self.pool, &self.made[place], self.vars.len())
     }
 
+    // Whether the row at this place of those in the making has the coefficients of another one.
+    fn is_at(&self, place: usize, row: &NewRow) -> bool
+        requires live { place < length self.now.made }
+        requires wide { length row.now.cells.items ≡ length self.now.vars + 1 }
+        requires signed { IsSigned self.now.vars row.now.cells.items row.now.side }
+        ensures { result ≡ same_terms (slice_index_or self.now.made place no_row).terms (linear_in self.now.vars row.now.cells.items).terms }
+    {
+        self.has_signs(place, &row.side.signs) && self.has_cells(place, &row.cells)
+    }
+
+    // Whether the coefficients of the row at this place of those in the making have these signs.
+    fn has_signs(&self, place: usize, signs: &Signs) -> bool
+        requires { place < length self.now.made }
+        ensures { (ts : List Term) → AreSigns signs.now (spread_cells self.now.vars ts) → result ≡ false → same_terms (slice_index_or self.now.made place no_row).terms ts ≡ false }
+    {
+        self.made[place].side.signs.are_same(signs)
+    }
+
     // Whether the row at this place of those in the making has these coefficients.
-    fn is_at(&self, place: usize, cells: &Cells) -> bool
+    fn has_cells(&self, place: usize, cells: &Cells) -> bool
         requires live { place < length self.now.made }
         requires wide { length cells.now.items ≡ length self.now.vars + 1 }
         ensures { result ≡ same_terms (slice_index_or self.now.made place no_row).terms (linear_in self.now.vars cells.now.items).terms }
@@ -255,11 +286,12 @@ impl Workspace {
         requires few_made { length self.old.made ≤ 2000 }
         requires room { HasRoom self.old }
         requires wide { length row.now.cells.items ≡ length self.old.vars + 1 }
+        requires signed { IsSigned self.old.vars row.now.cells.items row.now.side }
         requires settled { IsSettled (linear_in self.old.vars row.now.cells.items) }
         ensures { self.new ≡ record self.old { made = settle self.old.made (row_in self.old.vars row.now.cells.items row.now.side) } }
     {
         self.tell_distinct();
-        match self.place_of(&row.cells) {
+        match self.place_of(row) {
             Some(place) => {
                 self.lower(place, row);
                 self.hint(hash, place);
@@ -273,16 +305,17 @@ impl Workspace {
     }
 
     // The place of the row with these coefficients, where one of the guesses for its hash is right.
-    fn guessed(&self, cells: &Cells, hash: u64) -> Option<usize>
-        requires { length cells.now.items ≡ length self.now.vars + 1 }
-        ensures { MatchOption result (Unit {0}) (λ place. IsPlace self.now.made (linear_in self.now.vars cells.now.items).terms place) }
+    fn guessed(&self, row: &NewRow, hash: u64) -> Option<usize>
+        requires wide { length row.now.cells.items ≡ length self.now.vars + 1 }
+        requires signed { IsSigned self.now.vars row.now.cells.items row.now.side }
+        ensures { MatchOption result (Unit {0}) (λ place. IsPlace self.now.made (linear_in self.now.vars row.now.cells.items).terms place) }
     {
         let mut guess = self.hints.first(hash);
         'guesses: for _guess in 0..self.count_made() {
             if guess >= self.count_made() {
                 return None;
             }
-            if self.is_at(guess, cells) {
+            if self.is_at(guess, row) {
                 return Some(guess);
             }
             guess = self.hints.next(hash, guess);
@@ -291,13 +324,14 @@ impl Workspace {
     }
 
     // A place with these coefficients.
-    fn place_of(&self, cells: &Cells) -> Option<usize>
-        requires { length cells.now.items ≡ length self.now.vars + 1 }
-        ensures { MatchOption result (list_any (λ row. same_terms row.terms (linear_in self.now.vars cells.now.items).terms) self.now.made ≡ false)
-            (λ place. IsPlace self.now.made (linear_in self.now.vars cells.now.items).terms place) }
+    fn place_of(&self, row: &NewRow) -> Option<usize>
+        requires wide { length row.now.cells.items ≡ length self.now.vars + 1 }
+        requires signed { IsSigned self.now.vars row.now.cells.items row.now.side }
+        ensures { MatchOption result (list_any (λ other. same_terms other.terms (linear_in self.now.vars row.now.cells.items).terms) self.now.made ≡ false)
+            (λ place. IsPlace self.now.made (linear_in self.now.vars row.now.cells.items).terms place) }
     {
         'rows: for place in 0..self.count_made() {
-            if self.is_at(place, cells) {
+            if self.is_at(place, row) {
                 return Some(place);
             }
         }
@@ -317,6 +351,7 @@ impl Workspace {
         requires room { HasRoom self.old }
         requires wide { length row.now.cells.items ≡ length self.old.vars + 1 }
         requires settled { IsSettled (linear_in self.old.vars row.now.cells.items) }
+        requires signed { IsSigned self.old.vars row.now.cells.items row.now.side }
         requires other { list_any (λ r. same_terms r.terms (linear_in self.old.vars row.now.cells.items).terms) self.old.made ≡ false }
         ensures { self.new ≡ record self.old { made = self.old.made ++ row_in self.old.vars row.now.cells.items row.now.side ∷ [] } }
     {
@@ -330,6 +365,7 @@ impl Workspace {
     // Puts a row in place of another one in the making, which has its coefficients, where its constant is less.
     fn lower(&mut self, place: usize, row: &NewRow)
         requires wide { length row.now.cells.items ≡ length self.old.vars + 1 }
+        requires signed { IsSigned self.old.vars row.now.cells.items row.now.side }
         requires settled { IsSettled (linear_in self.old.vars row.now.cells.items) }
         requires same { IsPlace self.old.made (linear_in self.old.vars row.now.cells.items).terms place }
         ensures { self.new ≡ record self.old {
@@ -361,6 +397,7 @@ impl Workspace {
     // Puts a row in place of another one in the making, which has its coefficients.
     fn replace(&mut self, place: usize, row: &NewRow)
         requires wide { length row.now.cells.items ≡ length self.old.vars + 1 }
+        requires signed { IsSigned self.old.vars row.now.cells.items row.now.side }
         requires settled { IsSettled (linear_in self.old.vars row.now.cells.items) }
         requires same { IsPlace self.old.made (linear_in self.old.vars row.now.cells.items).terms place }
         ensures { self.new ≡ record self.old { made = slice_set self.old.made place (row_in self.old.vars row.now.cells.items row.now.side) } }

@@ -16,3 +16,8 @@ pub mod BranchesCounted
 pub mod KindsFound
 pub mod NumbersFound
 pub mod LoweredFunctions
+pub mod EmittedCode
+pub mod EmittedTests
+pub mod EmittedBlocks
+pub mod NumbersMade
+pub mod FunctionsMade

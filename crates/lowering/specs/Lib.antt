@@ -6,3 +6,4 @@ pub mod StatementCode
 pub mod Lowered
 pub mod CodeBlocks
 pub mod TestLeaves
+pub mod Emitted

@@ -5,9 +5,21 @@
 //! types and signatures, and on `three_address` for the code.
 #![tactic(auto)]
 
+mod blocks;
+mod emit;
+mod kinds;
 mod laws;
+mod numbering;
+mod programs;
+mod reaches;
+mod sizes;
+mod statements;
+mod tests;
+mod values;
 
+pub use crate::blocks::completes_all;
 pub use crate::laws::{
     branches_are_leaves, code_is_in_blocks, functions_are_found, kinds_are_found,
     labels_have_jumps, numbers_name_their_positions, places_are_those_counted,
 };
+pub use crate::programs::{MOST_INSTRUCTIONS, lower};

@@ -20,7 +20,7 @@ use Rattle.state_types.specs.declared.error.StateError.TheVariants as state_erro
 use Rattle.state_types.specs.declared.matching.Found.{Found}
 use Rattle.state_types.specs.declared.types.Ty.{Ty}
 use Rattle.state_types.specs.declared.types.Ty.TheVariants as ty
-use Rattle.state_types.proofs.Pairing.{match_sound, words_carry}
+use Rattle.state_types.proofs.MatchPairs.{match_sound, words_carry}
 use Rattle.state_types.proofs.RowNames.{match-keys}
 use Rattle.state_types.proofs.Thens.{then_ok, ok_same}
 use Rattle.operation_rules.specs.Effects.{Stores, cells_from, index_within}

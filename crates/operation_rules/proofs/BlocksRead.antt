@@ -22,7 +22,7 @@ use Rattle.operation_rules.specs.Rules.{Setting, Rule, opens, one_type, two_type
 use Rattle.operation_rules.specs.Sound.{Fares}
 use Rattle.operation_rules.specs.Stored.{Packs}
 use Rattle.operation_rules.proofs.BlocksFound.{within_is, le_true, array_at, tuple_block, index_by, as_many_is}
-use Rattle.xan_lin.proofs.Values.{excess-value}
+use Rattle.xan_lin.proofs.ResultValues.{excess-value}
 use Rattle.operation_rules.proofs.RuleFacts.{OkHolds, Meets, meets_opens, needed_ok}
 use Rattle.operation_rules.proofs.WordsRead.{one_type_is, two_types_is, as_number_is, as_array_is, with_one_is, with_two_is, Acts, goes_same}
 

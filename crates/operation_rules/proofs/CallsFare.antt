@@ -14,7 +14,7 @@ use Rattle.state_types.specs.Words.{Headers, HasType}
 use Rattle.state_types.specs.declared.closed.Signature.{Signature}
 use Rattle.state_types.specs.declared.matching.Found.{Found}
 use Rattle.state_types.specs.declared.types.Ty.{Ty}
-use Rattle.state_types.proofs.Pairing.{words_carry, length-values_from}
+use Rattle.state_types.proofs.MatchPairs.{words_carry, length-values_from}
 use Rattle.state_types.proofs.RowNames.{match-below}
 use Rattle.state_types.proofs.Thens.{then_ok, ok_same}
 use Rattle.operation_rules.specs.Applied.{Ruled}

@@ -5,8 +5,8 @@ use Rattle.xan_lin.specs.Linear.{Linear, is_within, all_within, sized, form_of, 
 use Rattle.xan_lin.specs.declared.term.Term.{Term}
 use Rattle.xan_lin.specs.declared.term.TooLarge.{TooLarge}
 use Rattle.xan_lin.proofs.Booleans.{both_true}
-use Rattle.xan_lin.proofs.Sizes.{sized-fits}
-use Rattle.xan_lin.proofs.Sums.{sum-none}
+use Rattle.xan_lin.proofs.FormSizes.{sized-fits}
+use Rattle.xan_lin.proofs.TermSums.{sum-none}
 use Rattle.operation_rules.specs.Forms.{multiple_form, quotient_rows}
 
 multiple-made : (coef : ℤ) (var : ℕ) (n : ℤ) → is_within coef ≡ true → coef ≢ pos 0 → is_within n ≡ true

@@ -12,15 +12,15 @@ use Rattle.std.proofs.lemmas.List.Elements.{All-head, All-tail}
 use Rattle.xan_lin.specs.Linear.{Linear, NamesBelow, variable_form}
 use Rattle.xan_lin.specs.Subst.{listed, replacement, subst_of, values_from, given_values}
 use Rattle.xan_lin.specs.Value.{value_at, value_of}
-use Rattle.xan_lin.proofs.Substituting.{subst-value}
-use Rattle.xan_lin.proofs.Values.{value-cons, value-none}
+use Rattle.xan_lin.proofs.SubstitutedValues.{subst-value}
+use Rattle.xan_lin.proofs.ResultValues.{value-cons, value-none}
 use Rattle.state_types.specs.Matching.{value_for, values_for, pairs_of, found_with, matched}
 use Rattle.state_types.specs.Types.{TypeBelow, subst_ty}
 use Rattle.state_types.specs.Words.{Headers, HasType, IsBlock}
 use Rattle.state_types.specs.declared.matching.Found.{Found}
 use Rattle.state_types.specs.declared.types.Ty.{Ty}
 use Rattle.state_types.specs.declared.types.Ty.TheVariants as ty
-use Rattle.state_types.proofs.Pairing.{found_is, length-values_from}
+use Rattle.state_types.proofs.MatchPairs.{found_is, length-values_from}
 use Rattle.state_types.proofs.Thens.{then_ok, ok_same}
 use Rattle.operation_rules.specs.Forms.{variables_from}
 

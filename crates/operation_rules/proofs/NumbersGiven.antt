@@ -8,8 +8,8 @@ use Rattle.xan_lin.specs.Linear.{Linear, NamesBelow, sized, variable_form, sum_o
 use Rattle.xan_lin.specs.Value.{value_at, value_of, value_of_terms, Holds}
 use Rattle.xan_lin.specs.declared.term.Term.{Term}
 use Rattle.xan_lin.specs.declared.term.TooLarge.{TooLarge}
-use Rattle.xan_lin.proofs.Sizes.{sized-parts}
-use Rattle.xan_lin.proofs.Values.{value-cons, value-none, sum-value, difference-value, excess-value, product-value}
+use Rattle.xan_lin.proofs.FormSizes.{sized-parts}
+use Rattle.xan_lin.proofs.ResultValues.{value-cons, value-none, sum-value, difference-value, excess-value, product-value}
 use Rattle.xan_lin.proofs.Ring.{mul_comm, zero-add_ℤ}
 use Rattle.state_types.specs.Words.{Headers}
 use Rattle.state_types.specs.declared.types.Ty.TheVariants as ty

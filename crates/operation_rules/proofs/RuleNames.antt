@@ -7,7 +7,7 @@ use Rattle.xan_lin.specs.Linear.{Linear, NamesBelow, sized, variable_form, sum_o
 use Rattle.xan_lin.specs.Terms.{with_multiple, plus_term, sum_terms, scaled_terms}
 use Rattle.xan_lin.specs.declared.term.Term.{Term}
 use Rattle.xan_lin.specs.declared.term.TooLarge.{TooLarge}
-use Rattle.xan_lin.proofs.Sizes.{sized-parts}
+use Rattle.xan_lin.proofs.FormSizes.{sized-parts}
 use Rattle.state_types.specs.Naming.{ValuesBelow, FoundBelow}
 use Rattle.state_types.specs.Tables.{IsClosed}
 use Rattle.state_types.specs.Types.{TypeBelow, subst_ty}

@@ -8,7 +8,7 @@ use Rattle.std.proofs.lemmas.Map.Views.{Contains-from_any}
 use Rattle.xan_lin.specs.Linear.{Linear, are_within}
 use Rattle.xan_lin.specs.declared.term.Term.{Term}
 use Rattle.index_sorts.specs.Known.{same_form, no_terms}
-use Rattle.index_sorts.proofs.Knowing.{Decides-same_form}
+use Rattle.index_sorts.proofs.KnownRows.{Decides-same_form}
 use Rattle.proof_lines.specs.declared.line.Line.{Line}
 use Rattle.proof_lines.specs.declared.line.Line.TheVariants.{Hyp, Goal, Comb, Cut}
 use Rattle.proof_lines.specs.declared.bad_line.Why.{Why}
@@ -18,7 +18,7 @@ use Rattle.proof_lines.specs.Rows.{opposite_of, combination_of, cut_of, divides,
 use Rattle.proof_lines.specs.Variables.{with_terms, with_rows, variables}
 use Rattle.proof_lines.specs.Lines.{LineGives, IsSmall, LinesGive, EndsRefuted, LinesProve}
 use Rattle.proof_lines.specs.Check.{is_listed, with_row, bounded, is_positive, row_given, ends_refuted, goes_on, checked_from, checked}
-use Rattle.proof_lines.proofs.Growing.{with_rows-push, length-with_terms}
+use Rattle.proof_lines.proofs.TermVariables.{with_rows-push, length-with_terms}
 use Rattle.proof_lines.proofs.Proper.{both, join}
 
 -- ---- what a row is that was given

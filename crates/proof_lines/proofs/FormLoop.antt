@@ -1,11 +1,11 @@
 -- The loop over the parts of a form, one part at a time, and the form that comes of it.
 use Rattle.std.proofs.Common.{◌≡◌, ℕ, suc, ◌+◌, ◌-◌, ◌<◌, ◌≤◌, ℤ, List, [], ◌∷◌, ◌++◌, length, Result, Ok, Err, refl, sym, ap, ◌∙◌, append_assoc, arith}
 use Rattle.std.proofs.lemmas.List.{append-nil}
-use Rattle.xan_lin.specs.Linear.{Linear, is_within, all_within, sized, form_of}
+use Rattle.xan_lin.specs.Linear.{Linear, is_within, all_within, sized, form_of, bound}
 use Rattle.xan_lin.specs.declared.term.Term.{Term}
 use Rattle.xan_lin.specs.declared.term.TooLarge.{TooLarge}
-use Rattle.xan_lin.proofs.Sums.{sum-none}
-use Rattle.xan_lin.proofs.Sizes.{sized-fits}
+use Rattle.xan_lin.proofs.TermSums.{sum-none}
+use Rattle.xan_lin.proofs.FormSizes.{sized-fits}
 use Rattle.xan_read.specs.Reader.{Read, ◌>>=◌}
 use Rattle.xan_read.specs.Integers.{signed}
 use Rattle.proof_lines.specs.declared.form_text.Part.{Part}
@@ -74,27 +74,27 @@ part_fails made counter low n rest bytes r h e =
     sym (onto_none (form 16 0 bytes)) ∙ fails made (16 - counter) (16 - (counter + 1)) low n rest _ (omega arith) e r.same
 
 full : (made : List Term) (z : ℤ) (left low : ℕ) (rest others : List ℕ) (total : Read Linear) → left ≡ 0
-    → signed 0 4611686018427387903 rest ≡ Ok (z, others) → onto_form made (form left low rest) ≡ total → total ≡ Ok (record { terms = made; constant = z }, others)
+    → signed 0 bound rest ≡ Ok (z, others) → onto_form made (form left low rest) ≡ total → total ≡ Ok (record { terms = made; constant = z }, others)
 unfolding form
 full made z left low rest others total e0 e1 so_far =
     let one : onto_form made (form left low rest) ≡ Ok (record { terms = made; constant = z }, others) = rw (e0, e1) (ended made z others) in
     sym so_far ∙ one
 
 pub last_constant : (made : List Term) (z seen : ℤ) (counter low : ℕ) (rest others bytes : List ℕ) → Reading made counter low rest bytes → 16 ≤ counter → seen ≡ z
-    → signed 0 4611686018427387903 rest ≡ Ok (z, others) → form 16 0 bytes ≡ Ok (record { terms = made; constant = seen }, others)
+    → signed 0 bound rest ≡ Ok (z, others) → form 16 0 bytes ≡ Ok (record { terms = made; constant = seen }, others)
 last_constant made z seen counter low rest others bytes r h same e =
     sym (onto_none (form 16 0 bytes)) ∙ full made z (16 - counter) low rest others _ (omega arith) e r.same
     ∙ ap (λ n. let f : Linear = record { terms = made; constant = n } in let r : Read Linear = Ok (f, others) in r) (sym same)
 
 full_fails : (made : List Term) (left low n : ℕ) (rest : List ℕ) (total : Read Linear) → left ≡ 0
-    → signed 0 4611686018427387903 rest ≡ Err n → onto_form made (form left low rest) ≡ total → total ≡ Err n
+    → signed 0 bound rest ≡ Err n → onto_form made (form left low rest) ≡ total → total ≡ Err n
 unfolding form
 full_fails made left low n rest total e0 e1 so_far =
     let one : onto_form made (form left low rest) ≡ Err n = rw (e0, e1) refl in
     sym so_far ∙ one
 
 pub last_fails : (made : List Term) (counter low n : ℕ) (rest bytes : List ℕ) → Reading made counter low rest bytes → 16 ≤ counter
-    → signed 0 4611686018427387903 rest ≡ Err n → form 16 0 bytes ≡ Err n
+    → signed 0 bound rest ≡ Err n → form 16 0 bytes ≡ Err n
 last_fails made counter low n rest bytes r h e =
     sym (onto_none (form 16 0 bytes)) ∙ full_fails made (16 - counter) low n rest _ (omega arith) e r.same
 

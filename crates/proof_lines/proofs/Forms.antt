@@ -4,7 +4,7 @@ use Rattle.std.specs.Ordering.{int_eq}
 use Rattle.std.proofs.lemmas.List.{append-nil}
 use Rattle.std.proofs.lemmas.Bool.Decides.{nat_tests, Decides-int_eq}
 use Rattle.xan_lin.specs.Terms.{IsRising}
-use Rattle.xan_lin.specs.Linear.{Linear, IsForm, is_within, all_within}
+use Rattle.xan_lin.specs.Linear.{Linear, IsForm, is_within, all_within, bound}
 use Rattle.xan_lin.specs.Text.{number_text, term_text, terms_text, form_text}
 use Rattle.xan_lin.specs.declared.term.Term.{Term}
 use Rattle.xan_read.specs.Reader.{Reader, Exact}
@@ -27,10 +27,10 @@ abbrev pub Stops : List ℕ → Type 0
 Stops = Ends NoDigit 118
 
 abbrev number_of : Reader ℤ
-number_of = signed 0 4611686018427387903
+number_of = signed 0 bound
 
-exact-number_of : Exact number_of (IsSigned 0 4611686018427387903) NoDigit
-exact-number_of = exact-signed 0 4611686018427387903 (omega arith) (omega arith) (omega arith)
+exact-number_of : Exact number_of (IsSigned 0 bound) NoDigit
+exact-number_of = exact-signed 0 bound (omega arith) (omega arith) (omega arith)
 
 -- ---- a number, and perhaps its variable
 
@@ -69,27 +69,27 @@ exact-after_number low z = go (may_have_variable low z) refl
 
 pub record TermAt (low : ℕ) (t : Term) (text : List ℕ) : Type 0 where
   pub nonzero : t.coef ≢ pos 0
-  pub small : nat_abs t.coef ≤ 4611686018427387903
+  pub small : nat_abs t.coef ≤ bound
   pub at_least : low ≤ t.var
   pub at_most : t.var ≤ 4294967295
   pub is : text ≡ with_sign t.coef ++ (118 ∷ decimal t.var)
 
 abbrev pub IsPart : ℕ → Part → List ℕ → Type 0
 IsPart low (part.Term t) text = TermAt low t text
-IsPart low (part.Constant z) text = IsSigned 0 4611686018427387903 z text
+IsPart low (part.Constant z) text = IsSigned 0 bound z text
 
 abbrev IsPartInTurn : ℕ → Part → List ℕ → Type 0
-IsPartInTurn low = InTurn (IsSigned 0 4611686018427387903) (λ z. IsAfter (may_have_variable low z) low z)
+IsPartInTurn low = InTurn (IsSigned 0 bound) (λ z. IsAfter (may_have_variable low z) low z)
 
 follows_number : (b : Bool) (low : ℕ) (z : ℤ) (y : Part) (back rest : List ℕ) → IsAfter b low z y back → Stops rest → NoDigit (back ++ rest)
 follows_number true low z y back rest (inl i) h = subst (λ (t : List ℕ). NoDigit (t ++ rest)) (sym i.parts) refl
 follows_number true low z y back rest (inr g) h = passed (part.Constant z) y NoDigit back rest g h.item
 follows_number false low z y back rest g h = passed (part.Constant z) y NoDigit back rest g h.item
 
-part_from_constant : (low : ℕ) (z : ℤ) (y : Part) (front back text : List ℕ) → IsSigned 0 4611686018427387903 z front → IsGiven (part.Constant z) y back → text ≡ front ++ back → IsPart low y text
+part_from_constant : (low : ℕ) (z : ℤ) (y : Part) (front back text : List ℕ) → IsSigned 0 bound z front → IsGiven (part.Constant z) y back → text ≡ front ++ back → IsPart low y text
 part_from_constant low z y front back text i g parts =
     subst (λ (p : Part). IsPart low p text) (sym g.value)
-    (subst (IsSigned 0 4611686018427387903 z) (sym (parts ∙ ap (λ (t : List ℕ). front ++ t) g.nothing ∙ append-nil front)) i)
+    (subst (IsSigned 0 bound z) (sym (parts ∙ ap (λ (t : List ℕ). front ++ t) g.nothing ∙ append-nil front)) i)
 
 nonzero_from : (z : ℤ) → not (int_eq z (pos 0)) ≡ true → z ≢ pos 0
 nonzero_from z e h = let same = (Decides-int_eq z (pos 0)).1 h in absurd (differ (int_eq z (pos 0)) e same)
@@ -165,7 +165,7 @@ part_to low (part.Term t) text p =
 exact-form_part : (low : ℕ) → Exact (form_part low) (IsPart low) Stops
 unfolding form_part
 exact-form_part low = exact_as _ (IsPartInTurn low) (IsPart low) Stops Stops
-    (exact-in_turn _ _ (IsSigned 0 4611686018427387903) (λ z. IsAfter (may_have_variable low z) low z) NoDigit Stops exact-number_of (λ z _ _. exact-after_number low z)
+    (exact-in_turn _ _ (IsSigned 0 bound) (λ z. IsAfter (may_have_variable low z) low z) NoDigit Stops exact-number_of (λ z _ _. exact-after_number low z)
     (λ z y back rest i h. follows_number (may_have_variable low z) low z y back rest i h))
     (part_from low) (part_to low) (λ _ h. h)
 
@@ -183,11 +183,11 @@ same_sign : (z : ℤ) → with_sign z ≡ number_text z
 same_sign (pos n) = refl
 same_sign (negsuc n) = refl
 
-within_from : (z : ℤ) → nat_abs z ≤ 4611686018427387903 → is_within z ≡ true
+within_from : (z : ℤ) → nat_abs z ≤ bound → is_within z ≡ true
 within_from (pos n) h = grind (arith, nat_tests)
 within_from (negsuc n) h = grind (arith, nat_tests)
 
-within_to : (z : ℤ) → is_within z ≡ true → nat_abs z ≤ 4611686018427387903
+within_to : (z : ℤ) → is_within z ≡ true → nat_abs z ≤ bound
 within_to (pos n) h = grind (arith, nat_tests)
 within_to (negsuc n) h = grind (arith, nat_tests)
 
@@ -239,7 +239,7 @@ rest_stops room (part.Term t) y back rest i h =
     (form_stops i.value.terms i.value.constant rest)
 rest_stops room (part.Constant z) y back rest g h = passed (constant_form z) y Stops back rest g h
 
-constant_at : (room low : ℕ) (z : ℤ) (text : List ℕ) → IsSigned 0 4611686018427387903 z text → FormAt room low (constant_form z) text
+constant_at : (room low : ℕ) (z : ℤ) (text : List ℕ) → IsSigned 0 bound z text → FormAt room low (constant_form z) text
 constant_at room low z text i = record {
   rising = tt;
   few = omega arith;
@@ -252,7 +252,7 @@ constant_at room low z text i = record {
 form_from : (room low : ℕ) (p : Part) (y : Linear) (front back text : List ℕ) → IsPart low p front → IsRest room p y back → text ≡ front ++ back → FormAt (suc room) low y text
 form_from room low (part.Constant z) y front back text i g parts =
     subst (λ (f : Linear). FormAt (suc room) low f text) (sym g.value)
-    (constant_at (suc room) low z text (subst (IsSigned 0 4611686018427387903 z) (sym (parts ∙ ap (λ (t : List ℕ). front ++ t) g.nothing ∙ append-nil front)) i))
+    (constant_at (suc room) low z text (subst (IsSigned 0 bound z) (sym (parts ∙ ap (λ (t : List ℕ). front ++ t) g.nothing ∙ append-nil front)) i))
 form_from room low (part.Term t) y front back text p i parts =
     let f = i.value in
     let at = i.first in
@@ -304,16 +304,16 @@ form_to room low (t ∷ ts) z text at =
 
 pub exact-form : (room low : ℕ) → Exact (form room low) (FormAt room low) Stops
 unfolding form
-exact-form zero low = exact_as _ (InTurn (IsSigned 0 4611686018427387903) (λ z. IsGiven (constant_form z))) (FormAt 0 low) Stops Stops
-    (exact-in_turn _ _ (IsSigned 0 4611686018427387903) (λ z. IsGiven (constant_form z)) NoDigit Stops exact-number_of (λ z _ _. given (constant_form z) Stops)
+exact-form zero low = exact_as _ (InTurn (IsSigned 0 bound) (λ z. IsGiven (constant_form z))) (FormAt 0 low) Stops Stops
+    (exact-in_turn _ _ (IsSigned 0 bound) (λ z. IsGiven (constant_form z)) NoDigit Stops exact-number_of (λ z _ _. given (constant_form z) Stops)
     (λ z y back rest g h. passed (constant_form z) y NoDigit back rest g h.item))
     (λ y text i. subst (λ (f : Linear). FormAt 0 low f text) (sym i.second.value)
-    (constant_at 0 low i.value text (subst (IsSigned 0 4611686018427387903 i.value) (sym (i.parts ∙ ap (λ (t : List ℕ). i.front ++ t) i.second.nothing ∙ append-nil i.front)) i.first)))
+    (constant_at 0 low i.value text (subst (IsSigned 0 bound i.value) (sym (i.parts ∙ ap (λ (t : List ℕ). i.front ++ t) i.second.nothing ∙ append-nil i.front)) i.first)))
     (λ y text at. only_constant y.terms y.constant text at)
     (λ _ h. h)
   where
     only_constant : (ts : List Term) (z : ℤ) (text : List ℕ) → FormAt 0 low (record { terms = ts; constant = z }) text
-        → InTurn (IsSigned 0 4611686018427387903) (λ w. IsGiven (constant_form w)) (record { terms = ts; constant = z }) text
+        → InTurn (IsSigned 0 bound) (λ w. IsGiven (constant_form w)) (record { terms = ts; constant = z }) text
     only_constant [] z text at = record {
       value = z;
       front = text;

@@ -5,7 +5,7 @@ use Rattle.xan_lin.specs.Terms.{negated_terms}
 use Rattle.xan_lin.specs.declared.term.Term.{Term}
 use Rattle.xan_lin.specs.declared.term.TooLarge.{TooLarge}
 use Rattle.xan_lin.specs.declared.term.TooLarge.TheVariants.{Terms, Magnitude}
-use Rattle.xan_lin.proofs.Sizes.{sized-parts}
+use Rattle.xan_lin.proofs.FormSizes.{sized-parts}
 use Rattle.proof_lines.specs.declared.bad_line.Why.{Why}
 use Rattle.proof_lines.specs.declared.bad_line.Why.TheVariants as why
 use Rattle.proof_lines.specs.Rows.{opposite_of}

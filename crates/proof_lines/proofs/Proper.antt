@@ -6,14 +6,14 @@ use Rattle.std.proofs.lemmas.List.Folds.{list_any-append}
 use Rattle.xan_lin.specs.Terms.{IsRising, with_multiple, plus_term, sum_terms, scaled_terms, coefficient_of}
 use Rattle.xan_lin.specs.Linear.{Linear}
 use Rattle.xan_lin.specs.declared.term.Term.{Term}
-use Rattle.xan_lin.proofs.Sums.{Lt, Gt, Eq, order, plus-front, plus-behind, plus-same, IsRising-sum}
-use Rattle.xan_lin.proofs.Scaling.{IsRising-scaled}
+use Rattle.xan_lin.proofs.TermSums.{Lt, Gt, Eq, order, plus-front, plus-behind, plus-same, IsRising-sum}
+use Rattle.xan_lin.proofs.ScaledTerms.{IsRising-scaled}
 use Rattle.proof_lines.specs.Rows.{combination_of, floor_over, is_multiple, divides, divided_term, cut_of}
 use Rattle.proof_lines.specs.Variables.{is_among, with_variable, with_terms}
 use Rattle.proof_lines.specs.Check.{is_positive}
 use Rattle.proof_lines.specs.Cells.{dense, are_among, IsProper, AreProper}
 use Rattle.proof_lines.proofs.Different.{with_variable-among, equals_itself, same_number}
-use Rattle.proof_lines.proofs.Growing.{with_terms-none, with_terms-cons, length-with_terms}
+use Rattle.proof_lines.proofs.TermVariables.{with_terms-none, with_terms-cons, length-with_terms}
 use Rattle.xan_lin.proofs.Coefficients.{coefficient-none, coefficient-other}
 use Rattle.proof_lines.proofs.Dense.{dense-with}
 

@@ -1,7 +1,7 @@
 -- The reading of lines: each part of a form, forms, and lines by their first byte.
 use Rattle.std.specs.Prelude.{ℕ, zero, suc, ℤ, pos, Bool, ◌&&◌, not, nat_lt, List, [], ◌∷◌, ◌++◌, codes, Ok, if◌then◌else◌}
 use Rattle.std.specs.Ordering.{int_eq}
-use Rattle.xan_lin.specs.Linear.{Linear}
+use Rattle.xan_lin.specs.Linear.{Linear, bound}
 use Rattle.xan_lin.specs.declared.term.Term.{Term}
 use Rattle.xan_read.specs.Reader.{Read, Reader, ◌>>=◌}
 use Rattle.xan_read.specs.Combinators.{give, in_turn, behind, where_comes}
@@ -33,7 +33,7 @@ after_number low z bytes =
     else give (part.Constant z) bytes
 
 unfoldable pub form_part : ℕ → Reader Part
-form_part low = in_turn (signed 0 4611686018427387903) (λ z. after_number low z)
+form_part low = in_turn (signed 0 bound) (λ z. after_number low z)
 
 abbrev pub with_front : Term → Linear → Linear
 with_front t form = record { terms = t ∷ form.terms; constant = form.constant }
@@ -48,7 +48,7 @@ constant_form z = record { terms = []; constant = z }
 
 -- at most so many terms of rising variables from `low` on, and the constant
 unfoldable pub form : ℕ → ℕ → Reader Linear
-form zero low = in_turn (signed 0 4611686018427387903) (λ z. give (constant_form z))
+form zero low = in_turn (signed 0 bound) (λ z. give (constant_form z))
 form (suc room) low = in_turn (form_part low) (after_part (form room))
 
 -- ---- lines

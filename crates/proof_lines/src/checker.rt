@@ -209,13 +209,8 @@ fn put(pool: &mut RowPool, cells: &Cells)
     };
 }
 
-/// The check of the lines over a list of rows. It leaves the rows of the lines behind those of the pool.
-pub(crate) fn walk(
-    pool: &mut RowPool,
-    hyps: &[Form],
-    goal: &Form,
-    lines: &[Line],
-) -> Result<(), BadLine>
+// The check of the lines over a list of rows. It leaves the rows of the lines behind those of the pool.
+fn walk(pool: &mut RowPool, hyps: &[Form], goal: &Form, lines: &[Line]) -> Result<(), BadLine>
     requires width { pool.old.width ≡ 65 }
     requires countable { length lines.now < 2 ^ 32 }
     requires room { length pool.old.rows + length lines.now ≤ pool.old.capacity }

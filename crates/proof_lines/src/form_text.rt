@@ -4,11 +4,11 @@ ghost use Rattle.xan_read.specs.Code.{Gives};
 ghost use Rattle.proof_lines.specs.Reading.{after_number, form_part, form};
 
 use arrayvec::ArrayVec;
-use xan_lin::{Form, Term};
+use xan_lin::{BOUND, Form, Term};
 use xan_read::{Fault, after, number, signed};
 
-/// The greatest magnitude of a number of a form.
-const BOUND: u64 = 4611686018427387903;
+/// The greatest magnitude of a number of a form, without a sign.
+const LARGEST: u64 = BOUND as u64;
 
 /// The greatest number of a variable.
 const LAST_VARIABLE: u64 = 4294967295;
@@ -45,7 +45,7 @@ fn read_after_number(bytes: &[u8], low: u64, coef: i64) -> Result<(Part, &[u8]),
 fn read_part(bytes: &[u8], low: u64) -> Result<(Part, &[u8]), Fault>
     ensures { Gives (λ x. (x.0, x.1.now)) result (form_part low bytes.now) }
 {
-    let (coef, rest) = signed(bytes, 0, BOUND)?;
+    let (coef, rest) = signed(bytes, 0, LARGEST)?;
     read_after_number(rest, low, coef)
 }
 
@@ -69,12 +69,14 @@ fn read_parts(bytes: &[u8]) -> Result<(Parts, &[u8]), Fault>
             Part::Constant(constant) => return Ok(((terms, constant), others)),
         }
     }
-    let (constant, rest) = signed(rest, 0, BOUND)?;
+    let (constant, rest) = signed(rest, 0, LARGEST)?;
     Ok(((terms, constant), rest))
 }
 
-/// The form at the front, and the bytes behind it.
-pub(crate) fn read_form(bytes: &[u8]) -> Result<(Form, &[u8]), Fault>
+/// The form at the front, and the bytes behind it, as `+2v0-1v3+0`: at most 16 terms of rising variables, each number within `BOUND`.
+///
+/// The fault stands where no form has the bytes so far (`docs/dtal.md`).
+pub fn read_form(bytes: &[u8]) -> Result<(Form, &[u8]), Fault>
     ensures { Gives (λ x. (x.0, x.1.now)) result (form 16 0 bytes.now) }
 {
     let ((terms, constant), rest) = read_parts(bytes)?;

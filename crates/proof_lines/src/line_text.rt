@@ -106,8 +106,11 @@ fn read_operands(bytes: &[u8], kind: Kind) -> Result<(Line, &[u8]), Fault>
     }
 }
 
+/// The line at the front, and the bytes behind it, as `c 1 0 1 1`.
+///
+/// The fault stands where no line has the bytes so far (`docs/dtal.md`).
 #[tactic(auto, unfolding(crate::specs::Reading::one_line))]
-fn read_line(bytes: &[u8]) -> Result<(Line, &[u8]), Fault>
+pub fn read_line(bytes: &[u8]) -> Result<(Line, &[u8]), Fault>
     ensures { Gives (λ x. (x.0, x.1.now)) result (one_line bytes.now) }
 {
     let (kind, rest) = read_kind(bytes)?;

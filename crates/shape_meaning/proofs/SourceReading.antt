@@ -8,7 +8,7 @@ use Rattle.xanadu_tree.specs.PlainTree as plain
 use Rattle.xanadu_tree.specs.Written.{Parses, Reads}
 use Rattle.xanadu_parser.specs.declared.error.ParseError.{ParseError}
 use Rattle.xanadu_parser.specs.Parsing.{parsed}
-use Rattle.xanadu_parser.proofs.Meaning.{meaning}
+use Rattle.xanadu_parser.proofs.ParsedPrograms.{meaning}
 use Rattle.type_shapes.specs.Faults.{Check}
 use Rattle.scope_shapes.specs.Shape.{shape}
 

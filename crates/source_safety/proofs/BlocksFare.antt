@@ -1,11 +1,13 @@
 -- Constructs that read or make blocks, and calls, go well.
 use Rattle.std.proofs.Common.{◌≡◌, ◌∙◌, ℕ, ◌+◌, ◌*◌, ℤ, pos, negsuc, List, [], ◌∷◌, ◌++◌, length, replicate, Bool as Truth, true, false, Some, Ok, sym, ap, subst, arith}
-use Rattle.std.specs.Prelude.{nat_le}
+use Rattle.std.specs.Prelude.{nat_le, slice_get}
 use Rattle.std.specs.List.{AllZip}
 use Rattle.std.proofs.lemmas.Int.{ints}
 use Rattle.std.proofs.lemmas.Option.{same_Some}
+use Rattle.index_sorts.specs.Entails.{AllHold}
 use Rattle.state_types.specs.Words.{Header, Headers, HasType}
 use Rattle.state_types.specs.declared.closed.Packed.{Packed}
+use Rattle.state_types.specs.declared.closed.Signature.{Signature}
 use Rattle.state_types.specs.declared.types.Ty.{Ty}
 use Rattle.state_types.specs.declared.types.Ty.TheVariants as ty
 use Rattle.operation_rules.specs.Effects.{makes_equal, makes_array, makes_tuple}
@@ -19,14 +21,14 @@ use Rattle.typed_core.specs.SourceRuns.{Run, Env, Calls}
 use Rattle.typed_core.specs.SourceValues.{Tag, Number, Array, Tuple, Value, Block, Blocks, words_of, have_tags, tags_of, tag_at, header_in, separate, used, cell_tag}
 use Rattle.typed_core.specs.States.{Site, State}
 use Rattle.source_safety.specs.Values.{tag_for, tags_for, headers_of, HasValue, HaveValues, AreTagged}
-use Rattle.source_safety.specs.Standing.{GoalsHold, CallsFare, Fares}
+use Rattle.source_safety.specs.Standing.{GoalsHold, CallsFare, Fares, Operands}
 use Rattle.source_safety.proofs.BlockRules.{load_rule, new_rule, tuple_rule, call_rule}
 use Rattle.source_safety.proofs.BlockTags.{one_more_tagged, array_tagged, tuple_tagged, tags_have}
 use Rattle.source_safety.proofs.EffectsFare.{OneWord, typed_by, type_known, only_type, one_type, noted_demands, tags_there, value_by_fares, act_fares, effect_fares, first_has}
 use Rattle.source_safety.proofs.FaredOn.{fares_on, goes_with}
 use Rattle.source_safety.proofs.OneWords.{CellTags, load_one}
 use Rattle.source_safety.proofs.RuleTags.{given_tags}
-use Rattle.source_safety.proofs.ValuesMade.{Operands, GivesFrom}
+use Rattle.source_safety.proofs.ValuesMade.{GivesFrom}
 
 -- ---- one block more
 
@@ -47,7 +49,7 @@ module _ (table : List Packed) (t : Ty) where
   tuple_one tag number packed vs there tags store all false = tt
 
 -- values that have words of their types, and the tags of these
-have_from : (headers : Headers) (assignment : List ℤ) (vs : List Value) (ts : List Ty) → AllZip (HasType headers assignment) (words_of vs) ts → tags_of vs ≡ tags_for ts
+pub have_from : (headers : Headers) (assignment : List ℤ) (vs : List Value) (ts : List Ty) → AllZip (HasType headers assignment) (words_of vs) ts → tags_of vs ≡ tags_for ts
     → HaveValues headers assignment vs ts
 unfolding words_of tags_of tags_for
 have_from headers assignment [] [] has tags = tt
@@ -66,6 +68,15 @@ have_from headers assignment (v ∷ vs) (t ∷ ts) has tags =
 
 pub descriptor_is : (b : Block) (d : ℕ) (cells : ℤ) → header_in (Some b) ≡ Some (record { descriptor = pos d; cells = cells }) → b.descriptor ≡ d
 descriptor_is b d cells e = omega (arith, ints, (ap (λ (x : Header). x.descriptor) (same_Some _ _ e)))
+
+-- values that fit the signature of a function, for some values of its variables
+pub record Entering (sigs : List Signature) (headers : Headers) (fun : ℕ) (vs : List Value) : Type 0 where
+  pub sig : Signature
+  pub there : slice_get sigs fun ≡ Some sig
+  pub values : List ℤ
+  pub one_each : length values ≡ sig.vars
+  pub hold : AllHold values sig.rows
+  pub have : HaveValues headers values vs sig.params
 
 module _ {L : Type 0} (site : Site) (setting : IsSetting (setting_of site)) (env : Env) (st : State) (t : Ty) (more : State) (assignment : List ℤ) (run : Run L) (goals : GoalsHold more.goals) where
   cell_tags : (element : ℕ) (count : _) (packed : Packed) (given : List Ty) (a : Value) → HasValue (headers_of run.store) assignment a (ty.Array element count)
@@ -123,6 +134,25 @@ module _ {L : Type 0} (site : Site) (setting : IsSetting (setting_of site)) (env
       (nat_le (used run.store.blocks + (length (words_of vs) + 2)) run.store.heap))
 
   -- ---- calls
+
+  -- the function that is called begins with arguments that fit its signature
+  pub call_enters : (fun : ℕ) (types : List Ty) (vs : List Value) (at : ℕ) → Operands site st env assignment run.store types vs
+      → type_by site (Some at) (operation.Call fun) types st ≡ Ok (t, more) → Entering site.sigs (headers_of run.store) fun vs
+  call_enters fun types vs at it is =
+      let typed = typed_by site (Some at) (operation.Call fun) types st t more is in
+      let r = call_rule (setting_of site) st.ctx.vars types typed.by.r fun typed.by.is in
+      let calling = effect_fares site setting env no_cells (Some at) (operation.Call fun) types st typed.given more typed.by assignment run.store vs it.stands it.stands.holds.fits it.have it.below
+      (noted_demands site (operation.Call fun) types st t more assignment at typed goals it.stands.hold) in
+      let same : r.sig ≡ calling.sig = same_Some r.sig calling.sig (sym r.there ∙ calling.there) in
+      record {
+        sig = calling.sig;
+        there = calling.there;
+        values = calling.values;
+        one_each = calling.one_each;
+        hold = calling.hold;
+        have = have_from (headers_of run.store) calling.values vs calling.sig.params calling.fit
+            (tags_have (headers_of run.store) assignment vs types it.have ∙ sym r.tags ∙ ap (λ s. tags_for s.params) same);
+      }
 
   pub call_fares : (call : Calls L) → CallsFare site.table site.sigs call → (fun : ℕ) (types : List Ty) (vs : List Value) (at : ℕ) → Operands site st env assignment run.store types vs
       → type_by site (Some at) (operation.Call fun) types st ≡ Ok (t, more) → Fares (GivesFrom site setting env more assignment run t) (call fun vs run)

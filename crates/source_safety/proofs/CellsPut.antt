@@ -22,7 +22,7 @@ use Rattle.typed_core.specs.SourceValues.{Tag, Number, Array, Value, Block, Bloc
 use Rattle.typed_core.specs.States.{Site, State}
 use Rattle.typed_core.specs.Statements.{store}
 use Rattle.source_safety.specs.Values.{headers_of, HaveValues, tag_for, tags_for}
-use Rattle.source_safety.specs.Standing.{GoalsHold, Stands, Goes, CallsFare, Fares, Leaves}
+use Rattle.source_safety.specs.Standing.{GoalsHold, Stands, Goes, CallsFare, Fares, Leaves, Operands}
 use Rattle.source_safety.proofs.BlockRules.{store_rule}
 use Rattle.source_safety.proofs.BlocksFare.{descriptor_is}
 use Rattle.source_safety.proofs.BlockTags.{written_tagged}
@@ -32,7 +32,6 @@ use Rattle.source_safety.proofs.EffectsFare.{tags_there, effect_fares}
 use Rattle.source_safety.proofs.ExpressionsFare.{value_fares, expression_grown, grown_goals, one_operand, more_operands}
 use Rattle.source_safety.proofs.FaredOn.{fares_then, goes_on, goes_behind, goes_with}
 use Rattle.source_safety.proofs.SimpleStatements.{state_known}
-use Rattle.source_safety.proofs.ValuesMade.{Operands}
 
 -- a write that is not stuck is of a cell that is there
 pub record Puts (store : Blocks) (a i w : ℤ) : Type 0 where

@@ -6,7 +6,7 @@ use Rattle.index_sorts.specs.Context.{IndexContext}
 use Rattle.index_sorts.specs.Entails.{Entails, AllHold}
 use Rattle.std.specs.Bool.{Decides}
 use Rattle.index_sorts.specs.Known.{IsKnown, knows}
-use Rattle.index_sorts.proofs.Knowing.{Decides-knows, known-entailed}
+use Rattle.index_sorts.proofs.KnownRows.{Decides-knows, known-entailed}
 use Rattle.xan_lin.specs.Linear.{Linear}
 use Rattle.state_types.specs.declared.types.Ty.{Ty}
 use Rattle.state_types.proofs.Thens.{then_ok, ok_same}

@@ -32,25 +32,25 @@ use Rattle.typed_core.proofs.GrownOperands.{operand_goes, operands_go, chained_g
 use Rattle.typed_core.proofs.NamedOperands.{one_below, two_below}
 use Rattle.typed_core.proofs.NamedStates.{answered, all_more}
 use Rattle.source_safety.specs.Values.{headers_of, HasValue, HaveValues}
-use Rattle.source_safety.specs.Standing.{GoalsHold, Stands, Goes, Gives, GiveAll, CallsFare, Fares}
+use Rattle.source_safety.specs.Standing.{GoalsHold, Stands, Goes, Gives, GiveAll, CallsFare, Fares, Operands}
 use Rattle.source_safety.proofs.BlocksFare.{load_fares, new_fares, tuple_fares, call_fares}
 use Rattle.source_safety.proofs.Demanded.{goals_before}
 use Rattle.source_safety.proofs.FaredOn.{fares_then, fares_on, stays_here, goes_on, goes_behind, still_have}
-use Rattle.source_safety.proofs.ValuesMade.{Operands, literal_fares, truth_fares, measured_fares, arithmetic_fares, related_fares}
+use Rattle.source_safety.proofs.ValuesMade.{literal_fares, truth_fares, measured_fares, arithmetic_fares, related_fares}
 
 -- ---- the walk of elaboration
 
 module _ (site : Site) where
-  type_grown : (at : Option ℕ) (o : Operation) (types : List Ty) (st : State) (t : Ty) (more : State) → type_by site at o types st ≡ Ok (t, more) → Grown st more
+  pub type_grown : (at : Option ℕ) (o : Operation) (types : List Ty) (st : State) (t : Ty) (more : State) → type_by site at o types st ≡ Ok (t, more) → Grown st more
   type_grown at o types st t more is = (answered (type_by site at o types st) (t, more) (type_by_goes site at o types st) is).grown
 
   pub expression_grown : (e : core.Expr) (st : State) (t : Ty) (more : State) → operand site e st ≡ Ok (t, more) → Grown st more
   expression_grown e st t more is = (answered (operand site e st) (t, more) (operand_goes site e st) is).grown
 
-  expressions_grown : (es : core.Exprs) (before : List Ty) (st : State) (types : List Ty) (more : State) → operands site es before st ≡ Ok (types, more) → Grown st more
+  pub expressions_grown : (es : core.Exprs) (before : List Ty) (st : State) (types : List Ty) (more : State) → operands site es before st ≡ Ok (types, more) → Grown st more
   expressions_grown es before st types more is = (answered (operands site es before st) (types, more) (operands_go site es before st) is).grown
 
-  links_grown : (links : core.Links) (u : Ty) (st : State) (t : Ty) (more : State) → chained site links u st ≡ Ok (t, more) → Grown st more
+  pub links_grown : (links : core.Links) (u : Ty) (st : State) (t : Ty) (more : State) → chained site links u st ≡ Ok (t, more) → Grown st more
   links_grown links u st t more is = (answered (chained site links u st) (t, more) (chained_goes site links u st) is).grown
 
 pub grown_goals : (st more : State) → Grown st more → GoalsHold more.goals → GoalsHold st.goals

@@ -19,7 +19,7 @@ use Rattle.state_types.specs.Words.{Headers, HasType, IsBlock}
 use Rattle.state_types.specs.declared.types.Ty.{Ty}
 use Rattle.state_types.specs.declared.types.Ty.TheVariants as ty
 use Rattle.state_types.proofs.Edges.{type_at-all}
-use Rattle.state_types.proofs.Pairing.{match_sound}
+use Rattle.state_types.proofs.MatchPairs.{match_sound}
 use Rattle.state_types.proofs.Unpacked.{value-front, present_keeps, holds-front}
 use Rattle.operation_rules.specs.Forms.{variables_from}
 use Rattle.operation_rules.proofs.BlocksFound.{matching_is}

@@ -9,7 +9,7 @@ use Rattle.state_types.specs.Unpacking.{shifted_type}
 use Rattle.state_types.specs.declared.matching.Found.{Found}
 use Rattle.state_types.specs.declared.types.Ty.{Ty}
 use Rattle.state_types.specs.declared.types.Ty.TheVariants as ty
-use Rattle.state_types.proofs.Pairing.{pair_is}
+use Rattle.state_types.proofs.MatchPairs.{pair_is}
 use Rattle.state_types.proofs.Thens.{then_ok, ok_same}
 use Rattle.operation_rules.specs.Rules as rules
 use Rattle.operation_rules.proofs.BlocksFound.{matching_is}

@@ -19,14 +19,13 @@ use Rattle.typed_core.specs.States.{Site, State}
 use Rattle.typed_core.specs.Statements.{returning}
 use Rattle.typed_core.proofs.NamedOperands.{one_below}
 use Rattle.source_safety.specs.Values.{headers_of, HasValue, tag_for, tags_for}
-use Rattle.source_safety.specs.Standing.{GoalsHold, Stands, Goes, Came, CallsFare, Fares, Leaves}
+use Rattle.source_safety.specs.Standing.{GoalsHold, Stands, Goes, Came, CallsFare, Fares, Leaves, Operands}
 use Rattle.source_safety.proofs.BlockRules.{return_tags}
 use Rattle.source_safety.proofs.BranchesFare.{stated_by, state_grown}
 use Rattle.source_safety.proofs.Demanded.{demands_hold}
 use Rattle.source_safety.proofs.EffectsFare.{effect_fares}
 use Rattle.source_safety.proofs.ExpressionsFare.{value_fares, grown_goals, one_operand, zero_has}
-use Rattle.source_safety.proofs.FaredOn.{fares_then}
-use Rattle.source_safety.proofs.ValuesMade.{Operands}
+use Rattle.source_safety.proofs.FaredOn.{fares_then, keeps_on}
 
 front_same : (n : ℕ) (xs ys : List ℤ) → n ≤ length xs → take n (xs ++ ys) ≡ take n xs
 front_same zero xs ys h = refl
@@ -55,17 +54,18 @@ module _ (site : Site) (setting : IsSetting (setting_of site)) (env : Env) (st m
         holds = it.stands.holds;
       }
 
--- behind a part of the run, which left the function's own variables as they were
-came_behind : (site : Site) (one : State) (env : Env) (assignment : List ℤ) (old new : Blocks) (v : Value) → site.own.vars ≤ length assignment → (g : Goes site one env assignment old new)
-    → Came site.table site.own (take site.own.vars g.given) new v new → Came site.table site.own (take site.own.vars assignment) old v new
-came_behind site one env assignment old new v le g c =
+-- what the function gives behind a part of the run, which left its own index variables as they were
+pub came_after : (site : Site) (one : State) (env : Env) (assignment : List ℤ) (old middle new : Blocks) (v : Value) → site.own.vars ≤ length assignment
+    → (g : Goes site one env assignment old middle) → Came site.table site.own (take site.own.vars g.given) middle v new
+    → Came site.table site.own (take site.own.vars assignment) old v new
+came_after site one env assignment old middle new v le g c =
     let same : take site.own.vars g.given ≡ take site.own.vars assignment = ap (take site.own.vars) g.front.is ∙ front_same site.own.vars assignment g.front.rest le in
     record {
       own = c.own;
       one_each = c.one_each;
       hold = subst (λ a. AllHold (a ++ c.own) site.own.result_rows) same c.hold;
       has = subst (λ a. HasValue (headers_of new) (a ++ c.own) v site.own.result) same c.has;
-      keeps = g.keeps;
+      keeps = keeps_on (headers_of old) (headers_of middle) (headers_of new) g.keeps c.keeps;
       holds = c.holds;
     }
 
@@ -89,6 +89,6 @@ module _ {L : Type 0} (site : Site) (setting : IsSetting (setting_of site)) (rec
       let le : site.own.vars ≤ length assignment = subst (λ n. site.own.vars ≤ n) (sym stands.one_each) stands.own in
       fares_then (value call env e run) _ (value_fares site setting call calls env e st t one s.first hold assignment run stands)
       (λ p g. record {
-        is = came_behind site one env assignment run.store p.1.store p.0 le g.goes
+        is = came_after site one env assignment run.store p.1.store p.1.store p.0 le g.goes
             (returned_came site setting env one more goals t p.0 at g.goes.given p.1.store s.second (one_operand site env one assignment run.store p.1.store t p.0 g));
       })

@@ -30,7 +30,7 @@ use Rattle.typed_core.specs.Statements.{split, all_given}
 use Rattle.typed_core.proofs.GrownContexts.{types_by_goes}
 use Rattle.typed_core.proofs.NamedStates.{answered, Typed, typed_on, types_by_stays}
 use Rattle.source_safety.specs.Values.{headers_of, HaveValues, tags_for}
-use Rattle.source_safety.specs.Standing.{GoalsHold, Stands, Goes, GiveAll, CallsFare, Fares, Leaves}
+use Rattle.source_safety.specs.Standing.{GoalsHold, Stands, Goes, GiveAll, CallsFare, Fares, Leaves, Operands}
 use Rattle.source_safety.proofs.BlockRules.{split_rule}
 use Rattle.source_safety.proofs.BlocksFare.{descriptor_is}
 use Rattle.source_safety.proofs.Demanded.{acts_by}
@@ -40,10 +40,9 @@ use Rattle.source_safety.proofs.FaredOn.{fares_then, goes_on, goes_behind, goes_
 use Rattle.source_safety.proofs.PartsSet.{tagged_have, parts_set}
 use Rattle.source_safety.proofs.RuleTags.{given_tags}
 use Rattle.source_safety.proofs.SimpleStatements.{given_is}
-use Rattle.source_safety.proofs.ValuesMade.{Operands}
 
 -- no goals are made where variables are given types
-given_goals : (xs : List ℕ) (ts : List Ty) (st more : State) → all_given xs ts st ≡ Ok more → more.goals ≡ st.goals
+pub given_goals : (xs : List ℕ) (ts : List Ty) (st more : State) → all_given xs ts st ≡ Ok more → more.goals ≡ st.goals
 unfolding all_given
 given_goals [] [] st more e = ap (λ (s : State). s.goals) (sym (ok_same st more e))
 given_goals [] (t ∷ ts) st more e = absurd (let bad : ⊥ = cc in bad)

@@ -32,14 +32,14 @@ use Rattle.typed_core.proofs.NamedOperands.{tested_stays}
 use Rattle.typed_core.proofs.NamedStates.{answered, Typed, typed_on, types_more}
 use Rattle.typed_core.proofs.GrownContexts.{rows_more}
 use Rattle.source_safety.specs.Values.{headers_of}
-use Rattle.source_safety.specs.Standing.{GoalsHold, VariablesHold, Stands, Goes, CallsFare, Fares, side_state}
+use Rattle.source_safety.specs.Standing.{GoalsHold, VariablesHold, Stands, Goes, CallsFare, Fares, side_state, Operands}
 use Rattle.source_safety.proofs.BranchesFare.{branched_fares, branched_grown, branched_by}
 use Rattle.source_safety.proofs.Demanded.{goals_before}
 use Rattle.source_safety.proofs.EffectsFare.{tags_there}
 use Rattle.source_safety.proofs.ExpressionsFare.{value_fares, expression_grown, grown_goals, one_operand, more_operands}
 use Rattle.source_safety.proofs.FaredOn.{fares_then, fares_on, keeps_all, variables_wait, goes_on, goes_behind, stays_here}
 use Rattle.source_safety.proofs.RuleTags.{branch_tags, branch_truth_tags}
-use Rattle.source_safety.proofs.ValuesMade.{Operands, turned_operands}
+use Rattle.source_safety.proofs.ValuesMade.{turned_operands}
 
 -- ---- states that differ in their notes alone
 
@@ -84,7 +84,7 @@ module _ (site : Site) where
       let g = (answered (tested site test st) sides (tested_goes site test st) is).grown in
       record { vars = g.later.vars; goals = λ hold. goals_before st.goals sides.after.goals g.later.goals hold; types = g.types }
 
-  all_true_on : (parts : core.Tests) (sides last : Sides) → all_true site parts sides ≡ Ok last → On sides.after last.after
+  pub all_true_on : (parts : core.Tests) (sides last : Sides) → all_true site parts sides ≡ Ok last → On sides.after last.after
   unfolding all_true
   all_true_on core.NoTest sides last is = subst (λ (x : Sides). On sides.after x.after) (ok_same sides last is) (record { vars = omega arith; goals = λ hold. hold; types = refl })
   all_true_on (core.ATest part others) sides last is =
@@ -92,7 +92,7 @@ module _ (site : Site) where
       let h = test_on part (on_side sides.on_true sides.after) s.value s.first in
       on_again sides.after s.value.after last.after (record { vars = h.vars; goals = h.goals; types = h.types }) (all_true_on others s.value last s.second)
 
-  all_false_on : (parts : core.Tests) (sides last : Sides) → all_false site parts sides ≡ Ok last → On sides.after last.after
+  pub all_false_on : (parts : core.Tests) (sides last : Sides) → all_false site parts sides ≡ Ok last → On sides.after last.after
   unfolding all_false
   all_false_on core.NoTest sides last is = subst (λ (x : Sides). On sides.after x.after) (ok_same sides last is) (record { vars = omega arith; goals = λ hold. hold; types = refl })
   all_false_on (core.ATest part others) sides last is =

@@ -1,6 +1,5 @@
 -- Constructs that give a value over their operands, and make no block, go well.
 use Rattle.std.proofs.Common.{◌≡◌, ℕ, ℤ, List, [], ◌∷◌, Bool as Truth, Option, Some, None, Ok}
-use Rattle.std.specs.List.{All}
 use Rattle.std.proofs.lemmas.List.Elements.{All-head, All-tail}
 use Rattle.state_types.specs.Types.{TypeBelow}
 use Rattle.state_types.specs.declared.types.Ty.{Ty}
@@ -17,20 +16,14 @@ use Rattle.typed_core.specs.Constructs.{setting_of, type_by}
 use Rattle.typed_core.specs.Operators.{operation_of, demands_at, comparison_of, in_order}
 use Rattle.typed_core.specs.SourceOperands.{no_cells, acts, value_by, arithmetic, related, measured}
 use Rattle.typed_core.specs.SourceRuns.{Run, Env}
-use Rattle.typed_core.specs.SourceValues.{Tag, Number, Truth as Flag, Array, Value, Blocks}
+use Rattle.typed_core.specs.SourceValues.{Tag, Number, Truth as Flag, Array, Value}
 use Rattle.typed_core.specs.States.{Site, State}
 use Rattle.typed_core.proofs.NamedOperands.{two_below}
-use Rattle.source_safety.specs.Values.{tag_for, headers_of, HaveValues}
-use Rattle.source_safety.specs.Standing.{GoalsHold, Stands, Gives, Fares}
+use Rattle.source_safety.specs.Values.{tag_for}
+use Rattle.source_safety.specs.Standing.{GoalsHold, Gives, Fares, Operands}
 use Rattle.source_safety.proofs.EffectsFare.{OneWord, typed_by, type_known, only_type, free_demands, noted_demands, value_by_fares}
 use Rattle.source_safety.proofs.OneWords.{literal_one, truth_one, add_one, sub_one, mul_one, div_one, mod_one, compare_one, length_one}
 use Rattle.source_safety.proofs.RuleTags.{Tags, IsFree, literal_tags, truth_tags, add_tags, sub_tags, mul_tags, div_tags, mod_tags, compare_tags, length_tags}
-
--- what stands where a construct's operands have their values
-pub record Operands (site : Site) (st : State) (env : Env) (assignment : List ℤ) (store : Blocks) (types : List Ty) (vs : List Value) : Type 0 where
-  pub stands : Stands site st env assignment store
-  pub have : HaveValues (headers_of store) assignment vs types
-  pub below : All (TypeBelow st.ctx.vars) types
 
 module _ {L : Type 0} (site : Site) (setting : IsSetting (setting_of site)) (env : Env) where
   abbrev pub GivesFrom : (more : State) (assignment : List ℤ) (run : Run L) (t : Ty) → Value → Run L → Type 0

@@ -1,2 +1,4 @@
 pub mod Values
 pub mod Standing
+pub mod Whole
+pub mod Recorded

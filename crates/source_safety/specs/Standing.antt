@@ -65,6 +65,12 @@ pub record GiveAll (site : Site) (more : State) (env : Env) (assignment : List �
   pub have : HaveValues (headers_of new) goes.given vs types
   pub below : All (TypeBelow more.ctx.vars) types
 
+-- Where operands have their values, the first ones of a construct or of a list: the values wait while the run goes on, and keep their types.
+pub record Operands (site : Site) (st : State) (env : Env) (assignment : List ℤ) (store : Blocks) (types : List Ty) (vs : List Value) : Type 0 where
+  pub stands : Stands site st env assignment store
+  pub have : HaveValues (headers_of store) assignment vs types
+  pub below : All (TypeBelow st.ctx.vars) types
+
 -- What is wanted of a value and the run behind it; an end is none of a run that is stuck.
 abbrev pub By : {L A : Type 0} → (A → Run L → Type 0) → Answer L A → Type 0
 By P (Ok done) = P done.0 done.1
@@ -104,6 +110,16 @@ pub record CallsFare {L : Type 0} (table : List Packed) (sigs : List Signature) 
 abbrev pub Leaves : {L : Type 0} → (site : Site) (more : State) (width : ℕ) (assignment : List ℤ) (store : Blocks) → Flow → Run L → Type 0
 Leaves site more width assignment store (Next env) new = Goes site more env assignment store new.store × (length env ≡ width)
 Leaves site more width assignment store (Returns v) new = Came site.table site.own (take site.own.vars assignment) store v new.store
+
+-- A block leaves so much too, and completes only where control can come to its end.
+pub record Completes (may : Bool) (site : Site) (more : State) (width : ℕ) (env : Env) (assignment : List ℤ) (store new : Blocks) : Type 0 where
+  pub comes : may ≡ true
+  pub goes : Goes site more env assignment store new
+  pub wide : length env ≡ width
+
+abbrev pub LeavesIf : {L : Type 0} → (may : Bool) (site : Site) (more : State) (width : ℕ) (assignment : List ℤ) (store : Blocks) → Flow → Run L → Type 0
+LeavesIf may site more width assignment store (Next env) new = Completes may site more width env assignment store new.store
+LeavesIf may site more width assignment store (Returns v) new = Came site.table site.own (take site.own.vars assignment) store v new.store
 
 -- ---- joins
 

@@ -1,18 +1,18 @@
 //! What goes well where all goals hold.
 
-ghost use Rattle.std.specs.Prelude.{◌≡◌, ℕ, ◌<◌, ◌≤◌, ℤ, Bool, List, length, Option, Ok, All};
+ghost use Rattle.std.specs.Prelude.{◌≡◌, ℕ, ◌<◌, ◌≤◌, ℤ, Bool, List, ◌++◌, length, Option, Ok, All};
 ghost use Rattle.operation_rules.specs.Sound.{IsSetting};
-ghost use Rattle.source_safety.specs.Standing.{GoalsHold, Stands, Goes, Gives, CallsFare, Fares, Leaves, Brings, side_state};
+ghost use Rattle.source_safety.specs.Standing.{GoalsHold, Stands, Goes, Gives, GiveAll, Operands, CallsFare, Fares, Leaves, Brings, side_state};
 ghost use Rattle.state_types.specs.Naming.{ValuesBelow};
 ghost use Rattle.state_types.specs.declared.types.Ty.{Ty};
 ghost use Rattle.typed_core.specs.Constructs.{setting_of};
 ghost use Rattle.typed_core.specs.Joins.{Joint, joined, entered};
-ghost use Rattle.typed_core.specs.Operands.{operand};
-ghost use Rattle.typed_core.specs.SourceOperands.{value};
+ghost use Rattle.typed_core.specs.Operands.{operand, operands};
+ghost use Rattle.typed_core.specs.SourceOperands.{value, values};
 ghost use Rattle.typed_core.specs.SourceRuns.{Calls, Env, Place, Recorder, Run};
 ghost use Rattle.typed_core.specs.SourceStatements.{statement};
 ghost use Rattle.typed_core.specs.SourceTests.{holds};
-ghost use Rattle.typed_core.specs.SourceValues.{Blocks};
+ghost use Rattle.typed_core.specs.SourceValues.{Value, Blocks};
 ghost use Rattle.typed_core.specs.States.{Site, State, point};
 ghost use Rattle.typed_core.specs.Statements.{assigned, split, store, done, going_on, printed, returning};
 ghost use Rattle.typed_core.specs.Tests.{Sides, tested};
@@ -27,6 +27,15 @@ pub fn expressions_fare<L>()
         → IsSetting (setting_of site) → CallsFare site.table site.sigs call → operand site e st ≡ Ok (t, more) → GoalsHold more.goals
         → Stands site st env assignment run.store
         → Fares (λ v (new : Run L). Gives site more env assignment run.store t v new.store) (value call env e run) }
+{}
+
+/// So it is with operands, from left to right: the values that wait, those of the operands before them, keep their types while the others are
+/// evaluated, also where blocks are made meanwhile and cells are written.
+pub fn operands_fare<L>()
+    ensures { (site : Site) (call : Calls L) (env : Env) (es : core.Exprs) (types all : List Ty) (st more : State) (assignment : List ℤ) (run : Run L)
+        (before : List Value) → IsSetting (setting_of site) → CallsFare site.table site.sigs call → operands site es types st ≡ Ok (all, more)
+        → GoalsHold more.goals → Operands site st env assignment run.store types before
+        → Fares (λ vs (new : Run L). GiveAll site more env assignment run.store all (before ++ vs) new.store) (values call env es run) }
 {}
 
 /// So it is with a test: it is decided, and the rows of the side that it takes hold there, over all index variables so far.

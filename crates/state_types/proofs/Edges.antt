@@ -15,8 +15,8 @@ use Rattle.state_types.specs.Words.{Headers, HasType}
 use Rattle.state_types.specs.declared.pairs.Pair.{Pair}
 use Rattle.state_types.specs.declared.state.StateType.{StateType}
 use Rattle.state_types.specs.declared.types.Ty.{Ty}
-use Rattle.state_types.proofs.Pairing.{paired, pair_is, length-values_from}
-use Rattle.state_types.proofs.Soundness.{PairCarries, PairProper, demanded_holds}
+use Rattle.state_types.proofs.MatchPairs.{paired, pair_is, length-values_from}
+use Rattle.state_types.proofs.TargetSoundness.{PairCarries, PairProper, demanded_holds}
 use Rattle.state_types.proofs.Thens.{then_ok, ok_same}
 
 -- ---- pairs

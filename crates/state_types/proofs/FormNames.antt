@@ -7,7 +7,7 @@ use Rattle.xan_lin.specs.Subst.{listed, listed_or_own, replacement, multiple, mu
 use Rattle.xan_lin.specs.Terms.{with_multiple, plus_term, sum_terms, negated_term, negated_terms}
 use Rattle.xan_lin.specs.declared.term.Term.{Term}
 use Rattle.xan_lin.proofs.Booleans.{is_less}
-use Rattle.xan_lin.proofs.Sizes.{sized-parts}
+use Rattle.xan_lin.proofs.FormSizes.{sized-parts}
 use Rattle.state_types.specs.Naming.{ValuesBelow}
 
 abbrev pub Below : ℕ → List Term → Type 0

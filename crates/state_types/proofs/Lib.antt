@@ -1,12 +1,12 @@
 pub mod Edges
-pub mod Examples
-pub mod Refusing
+pub mod TypeExamples
+pub mod KindRefusals
 pub mod FormNames
-pub mod Pairing
+pub mod MatchPairs
 pub mod PlaceWrites
 pub mod RowNames
 pub mod ShiftFacts
-pub mod Soundness
+pub mod TargetSoundness
 pub mod TableFacts
 pub mod Thens
 pub mod Unpacked

@@ -20,7 +20,7 @@ use Rattle.state_types.specs.declared.types.Ty.{Ty}
 use Rattle.state_types.specs.declared.types.Ty.TheVariants.{Int, Bool, Array, Named}
 use Rattle.state_types.proofs.Edges.{pair_at_is, type_at-all}
 use Rattle.state_types.proofs.FormNames.{below-difference, below-zero, below-subst, below-more}
-use Rattle.state_types.proofs.Pairing.{pair_is, found_is}
+use Rattle.state_types.proofs.MatchPairs.{pair_is, found_is}
 use Rattle.state_types.proofs.ShiftFacts.{NamesBelow-shifted, first_is}
 use Rattle.state_types.proofs.Thens.{then_ok, within_ok, ok_same}
 use Rattle.state_types.proofs.Unpacked.{rows-vars}

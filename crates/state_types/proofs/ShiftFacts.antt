@@ -7,8 +7,8 @@ use Rattle.xan_lin.specs.Terms.{IsRising}
 use Rattle.xan_lin.specs.Linear.{Linear, NamesBelow, is_within, all_within, are_within, sized, form_of}
 use Rattle.xan_lin.specs.declared.term.Term.{Term}
 use Rattle.xan_lin.specs.declared.term.TooLarge.{TooLarge}
-use Rattle.xan_lin.proofs.Sums.{IsRising-lower, sum-none}
-use Rattle.xan_lin.proofs.Sizes.{sized-fits}
+use Rattle.xan_lin.proofs.TermSums.{IsRising-lower, sum-none}
+use Rattle.xan_lin.proofs.FormSizes.{sized-fits}
 use Rattle.std.specs.Prelude.{OnErr}
 use Rattle.index_sorts.specs.Context.{IndexContext, fresh_from, with_variables}
 use Rattle.index_sorts.specs.Known.{with_row, knows}

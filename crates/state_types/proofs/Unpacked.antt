@@ -10,7 +10,7 @@ use Rattle.index_sorts.specs.declared.error.ContextError.TheVariants.{Rows}
 use Rattle.xan_lin.specs.Linear.{Linear, NamesBelow}
 use Rattle.xan_lin.specs.Value.{value_at, value_of, value_of_terms, Holds}
 use Rattle.xan_lin.specs.declared.term.Term.{Term}
-use Rattle.xan_lin.proofs.Values.{value-cons, value-none}
+use Rattle.xan_lin.proofs.ResultValues.{value-cons, value-none}
 use Rattle.state_types.specs.Sound.{Carries, IsUnpacked}
 use Rattle.state_types.specs.Types.{TypeBelow}
 use Rattle.state_types.specs.Unpacking.{shifted_term, shifted, shifted_type, with_rows, unpacked}

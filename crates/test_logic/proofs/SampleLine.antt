@@ -1,5 +1,6 @@
 -- The sample's line is exact: one law of a combinator a part, and what may follow each part.
 use Rattle.std.proofs.Common.{◌≡◌, true, false, eqb, ℕ, zero, suc, List, [], ◌∷◌, ◌++◌, Option, Some, None, refl, sym, ap, subst, ◌∙◌, arith, inl, inr}
+use Rattle.xan_lin.specs.Linear.{bound}
 use Rattle.std.specs.Char.{is_ascii_digit}
 use Rattle.std.proofs.lemmas.Bool.{or_left}
 use Rattle.std.proofs.lemmas.List.{append-nil}
@@ -29,12 +30,12 @@ exact-slots : Exact slots AreSlots (Ends NoDigit 47)
 unfolding slots
 exact-slots = exact-repeated 47 _ (IsNumber 0 239) NoDigit (exact-number 0 239 (omega arith) (omega arith)) (λ _. refl) 2
 
-exact-coefficient : Exact coefficient (IsSigned 0 4611686018427387903) NoDigit
+exact-coefficient : Exact coefficient (IsSigned 0 bound) NoDigit
 unfolding coefficient
-exact-coefficient = exact-signed 0 4611686018427387903 (omega arith) (omega arith) (omega arith)
+exact-coefficient = exact-signed 0 bound (omega arith) (omega arith) (omega arith)
 
 -- an item is no mark at the end
-not_closed : (z : ℤ) (text rest : List ℕ) → IsSigned 0 4611686018427387903 z text → after 41 (text ++ rest) ≡ None
+not_closed : (z : ℤ) (text rest : List ℕ) → IsSigned 0 bound z text → after 41 (text ++ rest) ≡ None
 not_closed (pos n) text rest i = ap (λ (t : List ℕ). after 41 (t ++ rest)) i.is ∙ after_other 41 43 (decimal n ++ rest) (λ e. omega arith)
 not_closed (negsuc n) text rest i = ap (λ (t : List ℕ). after 41 (t ++ rest)) i.is ∙ after_other 41 45 (decimal (suc n) ++ rest) (λ e. omega arith)
 
@@ -66,8 +67,8 @@ exact-values : (kind : ℕ) → Exact (values kind) (AreValues kind) After
 unfolding values
 exact-values zero = exact-optional
 exact-values (suc zero) = exact_as _ _ _ (λ _. Unit {0}) After
-    (exact-closed 44 coefficient (IsSigned 0 4611686018427387903) NoDigit exact-coefficient (λ _. refl) 41 (λ e. omega arith) (λ _. refl) not_closed 3) (λ _ _ h. h) (λ _ _ h. h) (λ _ _. tt)
-exact-values (suc (suc n)) = exact_as _ _ _ (Ends NoDigit 95) After (exact-separated 95 coefficient (IsSigned 0 4611686018427387903) NoDigit exact-coefficient (λ _. refl) 1) (λ _ _ h. h) (λ _ _ h. h) (λ _ h. h.ends)
+    (exact-closed 44 coefficient (IsSigned 0 bound) NoDigit exact-coefficient (λ _. refl) 41 (λ e. omega arith) (λ _. refl) not_closed 3) (λ _ _ h. h) (λ _ _ h. h) (λ _ _. tt)
+exact-values (suc (suc n)) = exact_as _ _ _ (Ends NoDigit 95) After (exact-separated 95 coefficient (IsSigned 0 bound) NoDigit exact-coefficient (λ _. refl) 1) (λ _ _ h. h) (λ _ _ h. h) (λ _ h. h.ends)
 
 -- what follows the slots begins with `=`, what follows the register with that or `/`, what follows the name with these or `:`
 behind_slots : {Y : Type 0} (P : List ℕ → Type 0) (Q : List ℕ → Y → List ℕ → Type 0) (y : Y) (back rest : List ℕ) → ((t : List ℕ) → P (47 ∷ t)) → ((t : List ℕ) → P (61 ∷ t))

@@ -1,5 +1,6 @@
 -- A sample grammar, which the tests read: a production of three lines, and one that uses every combinator.
 use Rattle.std.specs.Prelude.{ℕ, zero, suc, List, [], ◌∷◌, ◌++◌, Option, Some, None, ℤ, codes, decimal, Bool, ◌||◌, ◌==◌}
+use Rattle.xan_lin.specs.Linear.{bound}
 use Rattle.std.specs.Char.{is_ascii_digit}
 use Rattle.xan_read.specs.Reader.{Reader}
 use Rattle.xan_read.specs.Combinators.{give, IsGiven, in_turn, InTurn, behind, IsBehind, where_comes, WhereComes, by_next, Either}
@@ -36,7 +37,7 @@ unfoldable pub slots : Reader (List ℕ)
 slots = repeated 47 2 (number 0 239)
 
 unfoldable pub coefficient : Reader ℤ
-coefficient = signed 0 4611686018427387903
+coefficient = signed 0 bound
 
 unfoldable pub one_integer : Reader (List ℤ)
 one_integer = in_turn (integer 9223372036854775808 9223372036854775807) (λ z. give (z ∷ []))
@@ -72,8 +73,8 @@ AreSlots = IsRepeated 47 2 (IsNumber 0 239)
 
 abbrev pub AreValues : ℕ → List ℤ → List ℕ → Type 0
 AreValues zero = Either (InTurn (IsInteger 9223372036854775808 9223372036854775807) (λ z. IsGiven (z ∷ []))) (IsGiven [])
-AreValues (suc zero) = IsClosed 44 41 3 (IsSigned 0 4611686018427387903)
-AreValues (suc (suc n)) = IsSeparated 95 1 (IsSigned 0 4611686018427387903)
+AreValues (suc zero) = IsClosed 44 41 3 (IsSigned 0 bound)
+AreValues (suc (suc n)) = IsSeparated 95 1 (IsSigned 0 bound)
 
 abbrev pub IsEnd : Line → Line → List ℕ → Type 0
 IsEnd made = IsBehind (codes ".") (IsGiven made)

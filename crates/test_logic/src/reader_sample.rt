@@ -7,6 +7,7 @@ ghost use Rattle.xan_read.specs.Numbers.{NoDigit, number};
 ghost use Rattle.test_logic.specs.ReaderSample.{transfer, spelled_transfer, IsTransfer, Line, line, IsLine, register, slots, coefficient, one_integer, optional_integer, values};
 
 use std::alloc::{AllocError, Global};
+use xan_lin::BOUND;
 use xan_read::{
     Fault, Production, ReadError, after, closed, integer, literal, name, number, push_number,
     repeated, separated, signed, word,
@@ -65,7 +66,7 @@ impl Production for Coefficient {
 
     #[tactic(auto, unfolding(crate::specs::ReaderSample::coefficient))]
     fn read<'a>(&self, alloc: Global, bytes: &'a [u8]) -> Result<(i64, &'a [u8]), ReadError> {
-        Ok(signed(bytes, 0, 4611686018427387903)?)
+        Ok(signed(bytes, 0, BOUND.unsigned_abs())?)
     }
 }
 

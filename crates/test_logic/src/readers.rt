@@ -3,10 +3,11 @@
 use crate::reader_sample::{push_transfer, read_line};
 use std::alloc::Global;
 use std::test::Fail;
+use xan_lin::BOUND;
 use xan_read::{Fault, ReadError, integer, number, push_integer, push_signed, signed};
 
 /// The largest coefficient.
-const LARGE: u64 = 4611686018427387903;
+const LARGE: u64 = BOUND as u64;
 
 /// A number of a range, an integer of 64 bits, or a coefficient with a sign always.
 #[derive(Clone, Copy)]

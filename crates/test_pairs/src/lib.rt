@@ -12,3 +12,5 @@ mod outside;
 mod pairs;
 #[cfg(test)]
 mod printed;
+#[cfg(test)]
+mod straight_texts;

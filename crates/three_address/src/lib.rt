@@ -11,7 +11,7 @@ mod instruction;
 mod labels;
 mod laws;
 mod marks;
-mod parts;
+mod place_lists;
 mod typed;
 
 pub use crate::assignment::{Assignment, REGISTERS};
@@ -23,4 +23,5 @@ pub use crate::laws::{
     steady_tables_have_all_live_places, table_ranges_are_intervals,
 };
 pub use crate::marks::live_positions;
+pub use crate::place_lists::parts;
 pub use crate::typed::{Edge, ProvedRow, Typed};

@@ -9,7 +9,7 @@ ghost use Rattle.three_address.specs.Splits as split;
 
 use crate::function::LowFun;
 use crate::instruction::{LowInstr, Op22};
-use crate::parts::parts;
+use crate::place_lists::parts;
 use std::alloc::Global;
 use xan_io::Memory;
 

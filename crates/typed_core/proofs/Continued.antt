@@ -4,7 +4,7 @@ use Rattle.std.proofs.lemmas.List.{append-nil}
 use Rattle.typed_core.specs.Growth.{Continues, Later}
 use Rattle.typed_core.specs.Limits.{held}
 use Rattle.typed_core.specs.States.{State}
-use Rattle.typed_core.proofs.Fitting.{Answers, Anything}
+use Rattle.typed_core.proofs.LimitedAnswers.{Answers, Anything}
 
 -- the value, if there is one
 abbrev pub Goes : {A E : Type 0} → (A → Type 0) → Result A E → Type 0

@@ -14,7 +14,7 @@ use Rattle.typed_core.specs.Constructs.{setting_of, followed, asking, types_by, 
 use Rattle.typed_core.specs.Limits.{by_rule, held}
 use Rattle.typed_core.specs.States.{Site, State}
 use Rattle.typed_core.specs.Strays.{type_below}
-use Rattle.typed_core.proofs.Fitting.{Fits, Rules, then_answers, filled_rules, needed_rules, by_rule_fits, held_fits}
+use Rattle.typed_core.proofs.LimitedAnswers.{Fits, Rules, then_answers, filled_rules, needed_rules, by_rule_fits, held_fits}
 use Rattle.typed_core.proofs.TypeKinds.{IsOfKind, AreOfKinds}
 use Rattle.typed_core.proofs.FitStates.{widened_full, all_assuming_full, demanding_keeps}
 use Rattle.typed_core.proofs.FitRules.{GivesKinds, all_given_kinds}

@@ -23,7 +23,7 @@ use Rattle.typed_core.specs.Joins.{stated, few_places, renewed, renewing, naming
 use Rattle.typed_core.specs.Limits.{needed, within, held}
 use Rattle.typed_core.specs.States.{Site, State, resuming, with_fresh, assuming, noting_state, there, matching}
 use Rattle.typed_core.specs.Strays.{clause_rises, values_rise, row_below}
-use Rattle.typed_core.proofs.Fitting.{Anything, Fits, then_answers, weaker, needed_fits, there_fits, within_fits, held_fits}
+use Rattle.typed_core.proofs.LimitedAnswers.{Anything, Fits, then_answers, weaker, needed_fits, there_fits, within_fits, held_fits}
 use Rattle.typed_core.proofs.TypeKinds.{ty_kind, some_kind, HaveKindsOf, AreOfKinds, are_with, renamed_kind}
 use Rattle.typed_core.proofs.FitMatches.{matching_fits}
 use Rattle.typed_core.proofs.KnownTypes.{IsEntry, Knows, AreWithin, present_of, all_weaker, all_behind, HasIndex, IsIndexed, Renews, renews, knows_types}

@@ -13,7 +13,7 @@ use Rattle.operation_rules.specs.Faults.{Ruling}
 use Rattle.operation_rules.specs.Rules as rules
 use Rattle.operation_rules.specs.declared.error.Fault.TheVariants.{WrongCount, WrongKind}
 use Rattle.typed_core.specs.States.{matching}
-use Rattle.typed_core.proofs.Fitting.{Answers, Anything, Fits, Rules, IsLarge, then_answers, match_rules, by_rule_fits}
+use Rattle.typed_core.proofs.LimitedAnswers.{Answers, Anything, Fits, Rules, IsLarge, then_answers, match_rules, by_rule_fits}
 use Rattle.typed_core.proofs.TypeKinds.{ty_kind, HaveKindsOf, AreOfKinds, wanted_kind, like_kinds, as_many}
 
 -- ---- rows

@@ -22,7 +22,7 @@ use Rattle.typed_core.specs.Constructs.{setting_of, type_by}
 use Rattle.typed_core.specs.Operands.{operand, operands, chained}
 use Rattle.typed_core.specs.Operators.{operation_of, demands_at, comparison_of, in_order}
 use Rattle.typed_core.specs.States.{Site, State, there}
-use Rattle.typed_core.proofs.Fitting.{Fits, Rules, then_answers, weaker, there_fits}
+use Rattle.typed_core.proofs.LimitedAnswers.{Fits, Rules, then_answers, weaker, there_fits}
 use Rattle.typed_core.proofs.TypeKinds.{ty_kind, HaveKindsOf, IsOfKind, AreOfKinds, are_with}
 use Rattle.typed_core.proofs.FitRules.{IsCell, IsTuple, GivesKinds, literal_rules, truth_value_rules, arithmetic_rules, compare_rules, load_rules, length_rules, call_rules, tuple_value_rules, new_rules}
 use Rattle.typed_core.proofs.FitConstructs.{type_by_fits}

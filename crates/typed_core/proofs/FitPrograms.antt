@@ -35,7 +35,7 @@ use Rattle.typed_core.specs.Places.{places_of}
 use Rattle.typed_core.specs.States.{Site, there}
 use Rattle.typed_core.specs.Statements.{block}
 use Rattle.typed_core.specs.Strays.{form_rises, type_rises, form_below, is_closed}
-use Rattle.typed_core.proofs.Fitting.{Anything, Fits, Behind, then_answers, weaker, any_answer, needed_fits, context_fits, there_fits, within_fits, held_fits, behind_none, behind_one}
+use Rattle.typed_core.proofs.LimitedAnswers.{Anything, Fits, Behind, then_answers, weaker, any_answer, needed_fits, context_fits, there_fits, within_fits, held_fits, behind_none, behind_one}
 use Rattle.typed_core.proofs.TypeKinds.{ty_kind, some_kind, HaveKindsOf, IsOfKind, type_kind}
 use Rattle.typed_core.proofs.KnownTypes.{IsListed, IsEntry, Knows, all_weaker}
 use Rattle.typed_core.proofs.FitStates.{rows_full}
@@ -88,11 +88,11 @@ types_fit cs = weaker (types_from cs []) (λ all b. subst (HaveKindsOf (map kind
 
 -- ---- closed types
 
-record IsClosedOf (packing : Packing) (packed : Packed) : Type 0 where
-  tuple : packed.tuple ≡ packing.tuple
-  kinds : HaveKindsOf (map kind_of packing.parts) packed.parts
+pub record IsClosedOf (packing : Packing) (packed : Packed) : Type 0 where
+  pub tuple : packed.tuple ≡ packing.tuple
+  pub kinds : HaveKindsOf (map kind_of packing.parts) packed.parts
 
-AreClosed : List Packing → List Packed → Type 0
+pub AreClosed : List Packing → List Packed → Type 0
 AreClosed [] [] = Unit {0}
 AreClosed [] (c ∷ cs) = ⊥
 AreClosed (p ∷ ps) [] = ⊥
@@ -108,7 +108,7 @@ closed_fits p =
     (λ less w. let made : Packed = record { vars = p.quant.count; rows = rows; parts = parts; tuple = p.tuple } in
     then_answers (held (is_closed made)) _ (held_fits (is_closed made)) (λ closed x. record { is = record { tuple = refl; kinds = h } })))))
 
-closed_all : (ps : List Packing) (made : List Packed) → Fits (Behind made (AreClosed ps)) (closed_types ps made)
+pub closed_all : (ps : List Packing) (made : List Packed) → Fits (Behind made (AreClosed ps)) (closed_types ps made)
 unfolding closed_types AreClosed
 closed_all [] made = record { is = behind_none made (AreClosed []) tt }
 closed_all (p ∷ ps) made =
@@ -186,7 +186,7 @@ tuple_of table number packed parts at tuple kinds = record {
 
 -- ---- the table
 
-all_at : {A : Type 0} (P : A → Type 0) (xs : List A) (n : ℕ) (x : A) → AllByRecursion P xs → slice_get xs n ≡ Some x → P x
+pub all_at : {A : Type 0} (P : A → Type 0) (xs : List A) (n : ℕ) (x : A) → AllByRecursion P xs → slice_get xs n ≡ Some x → P x
 all_at P [] n x h e = absurd (cc)
 all_at P (y ∷ ys) zero x h e = subst P (same_Some y x e) h.0
 all_at P (y ∷ ys) (suc n) x h e = all_at P ys n x h.1 e
@@ -225,11 +225,11 @@ module _ (types : List Packing) (packings : AllByRecursion (IsPacking types) typ
 
 -- ---- headers
 
-record IsSignedOf (f : core.Fun) (sig : Signature) : Type 0 where
-  params : HaveKindsOf (map kind_of f.params) sig.params
-  result : kind_of f.result ≡ ty_kind sig.result
+pub record IsSignedOf (f : core.Fun) (sig : Signature) : Type 0 where
+  pub params : HaveKindsOf (map kind_of f.params) sig.params
+  pub result : kind_of f.result ≡ ty_kind sig.result
 
-AreSigned : List core.Fun → List Signature → Type 0
+pub AreSigned : List core.Fun → List Signature → Type 0
 AreSigned [] [] = Unit {0}
 AreSigned [] (s ∷ ss) = ⊥
 AreSigned (f ∷ fs) [] = ⊥
@@ -248,19 +248,19 @@ signature_fits f =
     (λ g i. then_answers (within limit.Rows (length f.result_quant.rows)) _ (within_fits limit.Rows (length f.result_quant.rows))
     (λ j k. record { is = record { params = h; result = e } }))))))))
 
-signatures_fit : (fs : List core.Fun) (made : List Signature) → Fits (Behind made (AreSigned fs)) (signatures fs made)
+pub signatures_fit : (fs : List core.Fun) (made : List Signature) → Fits (Behind made (AreSigned fs)) (signatures fs made)
 unfolding signatures AreSigned
 signatures_fit [] made = record { is = behind_none made (AreSigned []) tt }
 signatures_fit (f ∷ fs) made =
     then_answers (signature f) _ (signature_fits f)
     (λ one e. weaker (signatures fs (made ++ one ∷ [])) (λ all b. behind_one made one (AreSigned fs) (AreSigned (f ∷ fs)) all (λ rest h. (e, h)) b) (signatures_fit fs (made ++ one ∷ [])))
 
-record SignedAt (sigs : List Signature) (fun : ℕ) (f : core.Fun) : Type 0 where
-  sig : Signature
-  at : slice_get sigs fun ≡ Some sig
-  is : IsSignedOf f sig
+pub record SignedAt (sigs : List Signature) (fun : ℕ) (f : core.Fun) : Type 0 where
+  pub sig : Signature
+  pub at : slice_get sigs fun ≡ Some sig
+  pub is : IsSignedOf f sig
 
-signed_at : (fs : List core.Fun) (sigs : List Signature) (fun : ℕ) (f : core.Fun) → AreSigned fs sigs → slice_get fs fun ≡ Some f → SignedAt sigs fun f
+pub signed_at : (fs : List core.Fun) (sigs : List Signature) (fun : ℕ) (f : core.Fun) → AreSigned fs sigs → slice_get fs fun ≡ Some f → SignedAt sigs fun f
 unfolding AreSigned
 signed_at [] sigs fun f h e = absurd (cc)
 signed_at (g ∷ gs) [] fun f h e = absurd h
@@ -334,7 +334,7 @@ module _ (types : List Packing) (headers : List Header) (f : core.Fun) (is : IsF
       (let same : i ≡ 0 + i = omega arith in
       subst (λ n. slice_get f.kinds n ≡ Some y) same (taken (length f.params) f.kinds i y (subst (λ ks. slice_get ks i ≡ Some y) (sym is.param_kinds) e))))) signed.params
 
-  start_fits : (goals : List GoalAt) (notes : List Note) → Fits (KnowsAt (setting types headers f) (shaped.body_start f)) (body_start sig goals notes)
+  pub start_fits : (goals : List GoalAt) (notes : List Note) → Fits (KnowsAt (setting types headers f) (shaped.body_start f)) (body_start sig goals notes)
   unfolding body_start
   start_fits goals notes =
       then_answers (within limit.Parameters (length sig.params)) _ (within_fits limit.Parameters (length sig.params))
@@ -344,7 +344,7 @@ module _ (types : List Packing) (headers : List Header) (f : core.Fun) (is : IsF
 
 module _ (types : List Packing) (packings : AllByRecursion (IsPacking types) types) (cs : List Packed) (closed : AreClosed types cs) (funs : List core.Fun)
     (sigs : List Signature) (signed : AreSigned funs sigs) where
-  suits_of : (fun : ℕ) (f : core.Fun) (own : Signature) → IsFunction types (map header funs) f → IsSignedOf f own
+  pub suits_of : (fun : ℕ) (f : core.Fun) (own : Signature) → IsFunction types (map header funs) f → IsSignedOf f own
       → Suits (setting types (map header funs) f) (record { table = table_with cs; sigs = sigs; fun = fun; own = own })
   suits_of fun f own is own_signed = record {
     cells = cells_are types packings cs closed;

@@ -22,7 +22,7 @@ use Rattle.xanadu_tree.specs.declared.expr.Op.TheVariants as op
 use Rattle.xanadu_tree.specs.declared.types.Kind.{Kind}
 use Rattle.xanadu_tree.specs.declared.types.Kind.TheVariants as kind
 use Rattle.typed_core.specs.Operators.{operation_of}
-use Rattle.typed_core.proofs.Fitting.{Answers, Anything, Rules, then_answers, weaker, any_answer, needed_rules, or_rules}
+use Rattle.typed_core.proofs.LimitedAnswers.{Answers, Anything, Rules, then_answers, weaker, any_answer, needed_rules, or_rules}
 use Rattle.typed_core.proofs.TypeKinds.{ty_kind, HaveKindsOf, IsOfKind, AreOfKinds, number_rules, truth_rules, array_rules, tuple_rules, subst_kind, shifted_kind}
 use Rattle.typed_core.proofs.FitMatches.{matching_rules, of_kinds_rules, as_many_rules}
 

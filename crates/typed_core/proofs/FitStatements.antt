@@ -23,7 +23,7 @@ use Rattle.typed_core.specs.Operands.{operand}
 use Rattle.typed_core.specs.States.{Site, State, point, noting_state, as_tuple, given}
 use Rattle.typed_core.specs.Statements.{assigned, all_given, split, store, done, printed, returning, Branches, meeting, after_branches, other_branch, statement, block}
 use Rattle.typed_core.specs.Tests.{tested, on_side}
-use Rattle.typed_core.proofs.Fitting.{Anything, Fits, Rules, then_answers, weaker}
+use Rattle.typed_core.proofs.LimitedAnswers.{Anything, Fits, Rules, then_answers, weaker}
 use Rattle.typed_core.proofs.TypeKinds.{ty_kind, some_kind, AreOfKinds, tuple_fits}
 use Rattle.typed_core.proofs.FitRules.{IsCell, GivesKinds, untuple_rules, store_rules, print_rules, return_rules}
 use Rattle.typed_core.proofs.FitConstructs.{types_by_fits, state_by_fits}
@@ -67,7 +67,7 @@ target_within before x after (inr t) = λ y h. subst (λ p. IsAmong p.visible y)
 mutual
   unfolding AreStatements
 
-  statement_within : (set : Setting) (before : Point) (s : core.Stmt) (after : Point) → IsStatement set before s after → AreWithin before.visible after.visible
+  pub statement_within : (set : Setting) (before : Point) (s : core.Stmt) (after : Point) → IsStatement set before s after → AreWithin before.visible after.visible
   statement_within set before (core.Set x e) after is = target_within before x after is.4
   statement_within set before (core.Split xs e at) after is = λ y h.
       subst (λ p. IsAmong p.visible y) (sym is.4.behind) (among_behind (range_with_len before.variables (length is.1.parts)) before.visible y h)
@@ -228,7 +228,7 @@ module _ (set : Setting) (site : Site) (suits : Suits set site) where
   mutual
     unfolding statement AreStatements noting_state
 
-    statement_fits : (s : core.Stmt) (before after : Point) (st : State) → IsStatement set before s after → KnowsAt set before st → Fits (KnowsAt set after) (statement site s st)
+    pub statement_fits : (s : core.Stmt) (before after : Point) (st : State) → IsStatement set before s after → KnowsAt set before st → Fits (KnowsAt set after) (statement site s st)
     statement_fits (core.Set x e) before after st is knows = assigned_fits set site suits before x e is.0 st after is.1 is.2 is.3 is.4 knows
     statement_fits (core.Split xs e at) before after st is knows = split_fits set site suits before xs e is.0 is.1 st after is.2 is.3 is.4 knows
     statement_fits (core.Store array index e at) before after st is knows =

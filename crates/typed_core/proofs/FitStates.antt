@@ -14,7 +14,7 @@ use Rattle.operation_rules.specs.Applied.{widened, all_assuming}
 use Rattle.operation_rules.specs.Faults.{filled}
 use Rattle.typed_core.specs.Limits.{by_rule}
 use Rattle.typed_core.specs.States.{Site, State, with_fresh, assuming, demanding, noting_state}
-use Rattle.typed_core.proofs.Fitting.{Answers, Anything, Fits, IsFull, then_answers, filled_rules, by_rule_fits}
+use Rattle.typed_core.proofs.LimitedAnswers.{Answers, Anything, Fits, IsFull, then_answers, filled_rules, by_rule_fits}
 
 -- ---- contexts
 

@@ -18,7 +18,7 @@ use Rattle.typed_core.specs.Operands.{operand}
 use Rattle.typed_core.specs.Operators.{comparison_of, in_order}
 use Rattle.typed_core.specs.States.{Site, State, noting_state}
 use Rattle.typed_core.specs.Tests.{Sides, branched, truth_leaf, leaf, on_side, tested, all_true, all_false}
-use Rattle.typed_core.proofs.Fitting.{Fits, Rules, then_answers}
+use Rattle.typed_core.proofs.LimitedAnswers.{Fits, Rules, then_answers}
 use Rattle.typed_core.proofs.TypeKinds.{ty_kind}
 use Rattle.typed_core.proofs.KnownTypes.{Knows}
 use Rattle.typed_core.proofs.FitStates.{assumed_fits}

@@ -21,7 +21,7 @@ use Rattle.typed_core.specs.States.{Site, State, there}
 use Rattle.typed_core.specs.Statements.{block}
 use Rattle.typed_core.specs.Strays.{form_below}
 use Rattle.typed_core.proofs.Continued.{Goes, no_more, more_again}
-use Rattle.typed_core.proofs.Fitting.{then_answers, weaker, any_answer}
+use Rattle.typed_core.proofs.LimitedAnswers.{then_answers, weaker, any_answer}
 use Rattle.typed_core.proofs.GrownStatements.{block_goes}
 use Rattle.typed_core.proofs.NamedPrograms.{most_stays}
 use Rattle.typed_core.proofs.NamedStates.{answered}

@@ -13,7 +13,7 @@ use Rattle.operation_rules.specs.Sides.{side}
 use Rattle.operation_rules.specs.declared.operation.Operation.{Operation}
 use Rattle.operation_rules.specs.declared.rule.Rule.{Rule}
 use Rattle.operation_rules.proofs.RuleNames.{rule_names, sides_named}
-use Rattle.typed_core.proofs.Fitting.{Answers, Anything, then_answers}
+use Rattle.typed_core.proofs.LimitedAnswers.{Answers, Anything, then_answers}
 
 one_named : (n : ℕ) (t : Result Ty TooLarge) → IsTypeNamed n t → Answers Anything (TypeBelow n) t
 one_named n (Ok t) h = record { is = h }

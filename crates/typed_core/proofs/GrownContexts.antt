@@ -28,7 +28,7 @@ use Rattle.typed_core.specs.Limits.{by_rule, held}
 use Rattle.typed_core.specs.States.{Site, State, Asked, asked, all_asked, none_asked, demanding}
 use Rattle.typed_core.specs.Strays.{type_below}
 use Rattle.typed_core.proofs.Continued.{held_known, Goes, no_more, one_more, more_again}
-use Rattle.typed_core.proofs.Fitting.{then_answers, weaker, any_answer}
+use Rattle.typed_core.proofs.LimitedAnswers.{then_answers, weaker, any_answer}
 use Rattle.typed_core.proofs.NamedStates.{known_answer, widened_is, test_all, test_type}
 
 -- ---- rows

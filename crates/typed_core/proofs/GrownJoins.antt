@@ -26,7 +26,7 @@ use Rattle.typed_core.specs.Limits.{Walk, within, needed, by_rule, held}
 use Rattle.typed_core.specs.States.{Site, State, resuming, with_fresh, assuming, noting_state, none_asked}
 use Rattle.typed_core.specs.Strays.{clause_rises, values_rise, row_below}
 use Rattle.typed_core.proofs.Continued.{held_known, Goes, no_more, one_more, some_more, more_again, same_more, later_here}
-use Rattle.typed_core.proofs.Fitting.{then_answers, any_answer}
+use Rattle.typed_core.proofs.LimitedAnswers.{then_answers, any_answer}
 use Rattle.typed_core.proofs.GrownContexts.{RowsBelow, rows_more, Adds, all_add, filled_goes, by_rule_goes, all_asked_more}
 use Rattle.typed_core.proofs.NamedStates.{widened_is, test_all, test_form}
 

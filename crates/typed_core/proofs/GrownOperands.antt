@@ -12,7 +12,7 @@ use Rattle.typed_core.specs.Operands.{operand, operands, chained}
 use Rattle.typed_core.specs.Operators.{operation_of, demands_at, comparison_of, in_order}
 use Rattle.typed_core.specs.States.{Site, State, there}
 use Rattle.typed_core.proofs.Continued.{Goes}
-use Rattle.typed_core.proofs.Fitting.{then_answers, weaker, any_answer}
+use Rattle.typed_core.proofs.LimitedAnswers.{then_answers, weaker, any_answer}
 use Rattle.typed_core.proofs.GrownContexts.{Onward, onward_here, onward_again, type_by_goes}
 
 module _ (site : Site) where

@@ -26,7 +26,7 @@ use Rattle.typed_core.specs.States.{Site, State, point, resuming, noting_state, 
 use Rattle.typed_core.specs.Statements.{assigned, all_given, split, store, done, printed, returning, Branches, meeting, after_branches, other_branch, statement, block}
 use Rattle.typed_core.specs.Tests.{tested, on_side}
 use Rattle.typed_core.proofs.Continued.{Goes, no_more, one_more, more_again, later_here, later_on}
-use Rattle.typed_core.proofs.Fitting.{then_answers, weaker, any_answer}
+use Rattle.typed_core.proofs.LimitedAnswers.{then_answers, weaker, any_answer}
 use Rattle.typed_core.proofs.GrownContexts.{RowsBelow, rows_more, Onward, onward_again, types_by_goes, state_by_goes}
 use Rattle.typed_core.proofs.GrownOperands.{operand_goes}
 use Rattle.typed_core.proofs.GrownTests.{tested_goes}

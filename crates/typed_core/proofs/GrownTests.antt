@@ -22,7 +22,7 @@ use Rattle.typed_core.specs.States.{Site, State, noting_state}
 use Rattle.typed_core.specs.Strays.{type_below}
 use Rattle.typed_core.specs.Tests.{Sides, branched, truth_leaf, leaf, on_side, tested, all_true, all_false}
 use Rattle.typed_core.proofs.Continued.{held_known, Goes, no_more, one_more, more_again, later_here, later_on}
-use Rattle.typed_core.proofs.Fitting.{then_answers, weaker, any_answer}
+use Rattle.typed_core.proofs.LimitedAnswers.{then_answers, weaker, any_answer}
 use Rattle.typed_core.proofs.GivenNamed.{side_named}
 use Rattle.typed_core.proofs.GrownContexts.{RowsBelow, rows_more, Adds, all_add, filled_goes, by_rule_goes, Onward, onward_again, state_by_goes}
 use Rattle.typed_core.proofs.GrownOperands.{operand_goes}

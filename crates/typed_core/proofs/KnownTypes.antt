@@ -18,7 +18,7 @@ use Rattle.typed_core.specs.Joins.{with_index, Renewed, has_index, is_named, is_
 use Rattle.xan_lin.specs.declared.term.LimitKind.TheVariants as limit
 use Rattle.typed_core.specs.Limits.{Walk, Misfit, within}
 use Rattle.typed_core.specs.States.{State, like, given}
-use Rattle.typed_core.proofs.Fitting.{Fits, then_answers, within_fits}
+use Rattle.typed_core.proofs.LimitedAnswers.{Fits, then_answers, within_fits}
 use Rattle.typed_core.proofs.TypeKinds.{ty_kind, some_kind, like_kinds}
 
 -- ---- lists of types

@@ -1,6 +1,6 @@
 pub mod Sources
-mod Examples
-pub mod Fitting
+mod GoalExamples
+pub mod LimitedAnswers
 pub mod TypeKinds
 pub mod FitMatches
 pub mod KnownTypes

@@ -36,7 +36,7 @@ use Rattle.typed_core.specs.Joins.{stated, with_index, Renewed, is_renewed, with
 use Rattle.typed_core.specs.Limits.{held, within, needed}
 use Rattle.typed_core.specs.States.{Site, State, resuming, with_fresh, assuming, noting_state, there, matching}
 use Rattle.typed_core.specs.Strays.{is_zero, terms_rise, form_rises, type_rises, clause_rises, values_rise, row_below}
-use Rattle.typed_core.proofs.Fitting.{Answers, Anything, then_answers, weaker, any_answer}
+use Rattle.typed_core.proofs.LimitedAnswers.{Answers, Anything, then_answers, weaker, any_answer}
 use Rattle.typed_core.proofs.NamedStates.{Stays, Went, stood, Widens, types_more, known_answer, needed_stays, there_stays, held_stays, within_stays, form_test, fresh_stays, assuming_stays, matching_stays}
 
 -- ---- terms

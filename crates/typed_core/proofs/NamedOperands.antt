@@ -26,7 +26,7 @@ use Rattle.typed_core.specs.Operands.{operand, operands, chained}
 use Rattle.typed_core.specs.Operators.{operation_of, demands_at, comparison_of, in_order}
 use Rattle.typed_core.specs.States.{Site, State, there, noting_state}
 use Rattle.typed_core.specs.Tests.{Sides, branched, truth_leaf, leaf, on_side, tested, all_true, all_false}
-use Rattle.typed_core.proofs.Fitting.{then_answers, weaker}
+use Rattle.typed_core.proofs.LimitedAnswers.{then_answers, weaker}
 use Rattle.typed_core.proofs.NamedStates.{Stays, Went, Typed, TypesBehind, TypeBehind, stood, went_on, typed_on, all_more, there_stays, type_by_stays, state_by_stays, assumed_stays}
 
 -- ---- lists of types

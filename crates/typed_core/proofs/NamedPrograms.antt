@@ -9,7 +9,7 @@ use Rattle.xan_lin.specs.Linear.{Linear, NamesBelow}
 use Rattle.xan_lin.specs.declared.term.LimitKind.{LimitKind}
 use Rattle.xan_lin.specs.declared.term.LimitKind.TheVariants as limit
 use Rattle.xan_lin.proofs.Booleans.{both_true, is_not_less}
-use Rattle.xan_lin.proofs.Sizes.{sized-parts}
+use Rattle.xan_lin.proofs.FormSizes.{sized-parts}
 use Rattle.state_types.specs.Tables.{IsClosed, int_cell, bool_cell}
 use Rattle.state_types.specs.Types.{TypeBelow}
 use Rattle.state_types.specs.Unpacking.{with_rows}
@@ -39,7 +39,7 @@ use Rattle.typed_core.specs.Places.{places_of}
 use Rattle.typed_core.specs.States.{Site, there}
 use Rattle.typed_core.specs.Statements.{block}
 use Rattle.typed_core.specs.Strays.{form_rises, type_rises, form_below, type_below, is_closed}
-use Rattle.typed_core.proofs.Fitting.{Answers, Anything, then_answers, weaker}
+use Rattle.typed_core.proofs.LimitedAnswers.{Answers, Anything, then_answers, weaker}
 use Rattle.typed_core.proofs.RowsSoFar.{int_closed, bool_closed}
 use Rattle.typed_core.proofs.NamedStates.{Stays, known_answer, answered, needed_stays, context_stays, there_stays, held_stays, within_stays, all_test, form_test, type_test}
 use Rattle.typed_core.proofs.NamedJoins.{EntryBelow, terms_test, type_rising, Behind}
@@ -205,7 +205,7 @@ entries_below : (n k : ℕ) (ts : List Ty) → All (TypeBelow n) ts → All (Ent
 entries_below n k [] all = All-nil (EntryBelow n)
 entries_below n k (t ∷ ts) all = All-cons (EntryBelow n) (k, t) (enumerate_from (k + 1) ts) (All-head (TypeBelow n) t ts all) (entries_below n (k + 1) ts (All-tail (TypeBelow n) t ts all))
 
-start_stays : (sig : Signature) (indices : ℕ) (goals : List GoalAt) (notes : List Note) → IsHeader sig → Stays (Behind sig.vars indices 0) (body_start sig goals notes)
+pub start_stays : (sig : Signature) (indices : ℕ) (goals : List GoalAt) (notes : List Note) → IsHeader sig → Stays (Behind sig.vars indices 0) (body_start sig goals notes)
 unfolding body_start
 start_stays sig indices goals notes is =
     let begin : IndexContext = record { vars = sig.vars; rows = [] } in
@@ -225,7 +225,7 @@ start_stays sig indices goals notes is =
       };
     }))))
 
-each : {A : Type 0} (P : A → Type 0) (xs : List A) (n : ℕ) (x : A) → All P xs → slice_get xs n ≡ Some x → P x
+pub each : {A : Type 0} (P : A → Type 0) (xs : List A) (n : ℕ) (x : A) → All P xs → slice_get xs n ≡ Some x → P x
 each P [] n x all e = absurd (let bad : ⊥ = cc in bad)
 each P (y ∷ ys) zero x all e = subst P (same_Some y x e) (All-head P y ys all)
 each P (y ∷ ys) (suc n) x all e = each P ys n x (All-tail P y ys all) e

@@ -27,7 +27,7 @@ use Rattle.typed_core.specs.Operands.{operand}
 use Rattle.typed_core.specs.States.{Site, State, point, resuming, noting_state, as_tuple, like, given}
 use Rattle.typed_core.specs.Statements.{assigned, all_given, split, store, done, printed, returning, Branches, meeting, after_branches, other_branch, statement, block}
 use Rattle.typed_core.specs.Tests.{tested, on_side}
-use Rattle.typed_core.proofs.Fitting.{Anything, then_answers, weaker}
+use Rattle.typed_core.proofs.LimitedAnswers.{Anything, then_answers, weaker}
 use Rattle.typed_core.proofs.NamedStates.{Stays, both_answers, Went, Typed, typed_on, types_more, within_stays, types_by_stays, state_by_stays}
 use Rattle.typed_core.proofs.NamedOperands.{one_below, three_below, operand_stays, tested_stays}
 use Rattle.typed_core.proofs.NamedJoins.{EntryBelow, IsNext, clause_next, clause_indices, Behind, values_more, typed_with, joined_stays, entered_stays, entered_if_stays, still_below}
@@ -265,7 +265,7 @@ module _ (set : Setting) (site : Site) (closed : All IsClosed site.table) where
   mutual
     unfolding statement AreStatements
 
-    statement_stays : (s : core.Stmt) (before after : Point) (first : ℕ) (st : State) → IsStatement set before s after → Reaches before first st
+    pub statement_stays : (s : core.Stmt) (before after : Point) (first : ℕ) (st : State) → IsStatement set before s after → Reaches before first st
         → Stays (Reaches after first) (statement site s st)
     statement_stays (core.Set x e) before after first st is b =
         same_point before after first (assigned site x e st) (target_indices before x after is.4) (assigned_stays site closed before.indices first x e st b)

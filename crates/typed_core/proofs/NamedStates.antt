@@ -31,7 +31,7 @@ use Rattle.typed_core.specs.Limits as limits
 use Rattle.typed_core.specs.Limits.{Stop, Past, Misfit, Stray, Walk, most, within, in_context, by_rule, held}
 use Rattle.typed_core.specs.States.{Site, State, with_fresh, assuming, demanding, there, matching}
 use Rattle.typed_core.specs.Strays.{form_below, type_below}
-use Rattle.typed_core.proofs.Fitting.{Answers, Anything, then_answers, weaker, any_answer}
+use Rattle.typed_core.proofs.LimitedAnswers.{Answers, Anything, then_answers, weaker, any_answer}
 use Rattle.typed_core.proofs.GivenNamed.{given_named, rule_gives}
 
 -- ---- answers that are no stray

@@ -28,7 +28,7 @@ use Rattle.typed_core.specs.Statements.{statement, block, other_branch}
 use Rattle.typed_core.specs.Strays.{form_below, type_below, is_closed}
 use Rattle.typed_core.specs.Tests.{tested, on_side}
 use Rattle.typed_core.proofs.Continued.{either, held_known, Goes}
-use Rattle.typed_core.proofs.Fitting.{then_answers, any_answer}
+use Rattle.typed_core.proofs.LimitedAnswers.{then_answers, any_answer}
 use Rattle.typed_core.proofs.GrownContexts.{RowsBelow, rows_more, row_adds}
 use Rattle.typed_core.proofs.GrownTests.{tested_goes}
 use Rattle.typed_core.proofs.GrownJoins.{joined_goes, entered_goes}

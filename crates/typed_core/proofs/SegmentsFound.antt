@@ -17,7 +17,7 @@ use Rattle.typed_core.specs.States.{Site, State, point, resuming, noting_state}
 use Rattle.typed_core.specs.Statements.{Branches, meeting, after_branches, other_branch, statement, block}
 use Rattle.typed_core.specs.Tests.{tested, on_side}
 use Rattle.typed_core.proofs.Continued.{either, Goes, no_more, later_here, later_on}
-use Rattle.typed_core.proofs.Fitting.{then_answers, weaker}
+use Rattle.typed_core.proofs.LimitedAnswers.{then_answers, weaker}
 use Rattle.typed_core.proofs.GrownTests.{tested_goes}
 use Rattle.typed_core.proofs.GrownJoins.{joined_goes, entered_goes, entered_if_goes}
 use Rattle.typed_core.proofs.GrownStatements.{side_later, branch_later, loop_later, statement_goes, block_goes}

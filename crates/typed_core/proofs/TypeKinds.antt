@@ -17,7 +17,7 @@ use Rattle.operation_rules.specs.declared.error.Fault.TheVariants.{WrongKind}
 use Rattle.operation_rules.specs.Rules as rules
 use Rattle.operation_rules.specs.Rules.{as_number, as_truth, as_array}
 use Rattle.typed_core.specs.States.{as_tuple}
-use Rattle.typed_core.proofs.Fitting.{Answers, Anything, Fits, Rules, then_answers, any_answer}
+use Rattle.typed_core.proofs.LimitedAnswers.{Answers, Anything, Fits, Rules, then_answers, any_answer}
 
 abbrev pub ty_kind : Ty → Kind
 ty_kind (ty.Int e) = kind.Int

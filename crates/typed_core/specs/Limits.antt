@@ -1,5 +1,6 @@
 -- What a program can have too much of, how much is allowed, and answers that are a value or why there is none.
 use Rattle.std.specs.Prelude.{ℕ, nat_lt, Bool as Truth, true, false, Result, Ok, Err, if◌then◌else◌}
+use Rattle.xan_lin.specs.Linear.{bound}
 use Rattle.xan_lin.specs.declared.term.LimitKind.{LimitKind}
 use Rattle.xan_lin.specs.declared.term.LimitKind.TheVariants as limit
 use Rattle.xan_lin.specs.declared.term.TooLarge.{TooLarge}
@@ -20,7 +21,7 @@ most limit.Parameters = 8
 most limit.Variables = 1024
 most limit.Rows = 512
 most limit.Terms = 16
-most limit.Magnitude = 4611686018427387903
+most limit.Magnitude = bound
 most limit.Places = 240
 most limit.Cone = 64
 most limit.System = 2000

@@ -1,3 +1,3 @@
 pub mod ArgumentLaws
-pub mod Simulation
+pub mod ForwardSimulation
 pub mod Puts

@@ -4,7 +4,7 @@ use Rattle.std.proofs.lemmas.Bool.Decides.{nat_tests}
 use Rattle.xan_lin.specs.Terms.{IsRising, with_multiple, plus_term, sum_terms, scaled_terms, coefficient_of}
 use Rattle.xan_lin.specs.declared.term.Term.{Term}
 use Rattle.xan_lin.proofs.Ring.{add-mul, zero-mul, add_assoc_ℤ, add_turn, zero-add_ℤ}
-use Rattle.xan_lin.proofs.Sums.{Lt, Gt, Eq, order, plus-front, plus-behind, plus-same}
+use Rattle.xan_lin.proofs.TermSums.{Lt, Gt, Eq, order, plus-front, plus-behind, plus-same}
 
 pub coefficient-none : (v : ℕ) → coefficient_of v [] ≡ pos 0
 unfolding coefficient_of

@@ -2,6 +2,7 @@
 use Rattle.std.specs.Prelude.{◌^◌, ◌-◌, ℕ, ◌<◌, ◌≤◌, ℤ, pos, ◌+ℤ◌, ◌-ℤ◌, ◌*ℤ◌, neg_ℤ, Bool, ◌&&◌, IsTrue, List, [], ◌∷◌, length, nat_lt, unsigned_abs, Result, Ok, Err, if◌then◌else◌}
 use Rattle.std.specs.List.{All, list_all}
 use Rattle.xan_lin.specs.Terms.{IsRising, sum_terms, negated_terms, scaled_terms}
+use Rattle.xan_lin.specs.declared.term.TheConstants.{BOUND}
 use Rattle.xan_lin.specs.declared.term.Term.{Term}
 use Rattle.xan_lin.specs.declared.term.TooLarge.{TooLarge}
 use Rattle.xan_lin.specs.declared.term.TooLarge.TheVariants.{Terms, Magnitude}
@@ -9,6 +10,10 @@ use Rattle.xan_lin.specs.declared.term.TooLarge.TheVariants.{Terms, Magnitude}
 pub record Linear : Type 0 where
   pub terms : List Term
   pub constant : ℤ
+
+-- the greatest magnitude of a number of a form
+abbrev pub bound : ℕ
+bound = unsigned_abs BOUND
 
 -- its magnitude is at most the bound, which is 2 ^ 62 - 1
 abbrev pub is_within : ℤ → Bool

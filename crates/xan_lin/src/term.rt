@@ -51,7 +51,7 @@ pub enum LimitKind {
     Magnitude,
     /// Places of a function.
     Places,
-    /// Rows that bear on a goal.
+    /// Index variables that bear on a goal.
     Cone,
     /// Rows of a round of elimination.
     System,

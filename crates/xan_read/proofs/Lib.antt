@@ -4,12 +4,12 @@ pub mod TableLaws
 pub mod RemainingLists
 pub mod UntilLaws
 pub mod ReaderLaws
-pub mod Ranges
+pub mod DigitRanges
 pub mod NumberLaws
 pub mod IntegerLaws
 pub mod ListLaws
 pub mod WordLaws
 pub mod NameLaws
 pub mod SignLaws
-pub mod Loops
+pub mod ListLoops
 pub mod SpelledLaws

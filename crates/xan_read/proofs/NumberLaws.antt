@@ -9,7 +9,7 @@ use Rattle.std.proofs.lemmas.Str.Parse.{tells_all_ascii_digits, IsNumeralModel, 
 use Rattle.std.proofs.lemmas.Fmt.{decimal_digit, decimal-digits_value, digits_decimal, digits_value-decimal, first_decimal, decimal_nonempty}
 use Rattle.xan_read.specs.Reader.{Alike, Found, Faulty, Exact}
 use Rattle.xan_read.specs.Numbers.{IsNumber, NoDigit, can_begin, stop_at, value_behind, digits_behind, number}
-use Rattle.xan_read.proofs.Ranges.{AreDigits, completed, can_from}
+use Rattle.xan_read.proofs.DigitRanges.{AreDigits, completed, can_from}
 use Rattle.xan_read.proofs.AlikeLaws.{done, ok_parts, err_is}
 
 numerals : IsNumeralModel (λ ds. all_ascii_digits ds ≡ true) (value_behind 0)

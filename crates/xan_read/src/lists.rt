@@ -46,7 +46,7 @@ fn read_onto<'a, P: Production>(
 }
 
 /// The items at the front, each behind a byte `c` and at most `room` of them, and the bytes behind them.
-#[tactic(auto, using(crate::proofs::Loops::onto_none))]
+#[tactic(auto, using(crate::proofs::ListLoops::onto_none))]
 pub fn repeated<'a, P: Production>(
     alloc: Global,
     bytes: &'a [u8],
@@ -78,7 +78,7 @@ pub fn separated<'a, P: Production>(
 
 /// The items at the front with a byte `c` between two and at most `room` of them, the byte `end` behind the last, and
 /// the bytes behind that.
-#[tactic(auto, using(crate::proofs::Loops::closed_empty, crate::proofs::Loops::closed_some))]
+#[tactic(auto, using(crate::proofs::ListLoops::closed_empty, crate::proofs::ListLoops::closed_some))]
 pub fn closed<'a, P: Production>(
     alloc: Global,
     bytes: &'a [u8],

@@ -46,7 +46,7 @@ fn appended(high: u64, value: u64, digit: u64) -> Option<u64>
 }
 
 /// The number with one more digit, if some number from `low` to `high` begins so.
-#[tactic(auto, using(crate::proofs::Ranges::too_large))]
+#[tactic(auto, using(crate::proofs::DigitRanges::too_large))]
 fn longer(low: u64, high: u64, value: u64, b: u8) -> Option<u64>
     requires { 0 < 10 * value + (b - 48) }
     ensures { result ≡ longer low high value b }
@@ -92,7 +92,7 @@ fn stop_at(rest: &[u8], low: u64, high: u64, value: u64) -> Result<(u64, &[u8]),
 }
 
 /// The value of the digits at the front, which follow those of `first`, and the bytes behind them.
-#[tactic(auto, using(crate::proofs::Ranges::digits_step, crate::proofs::Ranges::digits_end))]
+#[tactic(auto, using(crate::proofs::DigitRanges::digits_step, crate::proofs::DigitRanges::digits_end))]
 fn digits_behind(bytes: &[u8], low: u64, high: u64, first: u64) -> Result<(u64, &[u8]), Fault>
     requires { 0 < first }
     ensures exact { Gives (λ x. (x.0, x.1.now)) result (digits_behind low high first bytes.now) }

@@ -7,7 +7,7 @@ use Rattle.xanadu_lexer.specs.declared.token.Token.{Token}
 use Rattle.xanadu_parser.specs.Faults.{Begins, IsFault}
 use Rattle.xanadu_parser.specs.Kinds.{kinds_of}
 use Rattle.xanadu_parser.specs.Parsing.{first_at}
-use Rattle.xanadu_parser.proofs.Meaning.{one_tree}
+use Rattle.xanadu_parser.proofs.ParsedPrograms.{one_tree}
 use Rattle.xanadu_tree.specs.Nesting.{IsTooNested}
 use Rattle.xanadu_tree.specs.Plain as plain
 use Rattle.xanadu_tree.specs.PlainTree as tree

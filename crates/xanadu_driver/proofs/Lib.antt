@@ -6,8 +6,8 @@ pub mod Listings
 pub mod LinePieces
 pub mod ParsedAnswers
 pub mod Fates
-pub mod Ranges
-pub mod Simulation
+pub mod SmallRanges
+pub mod SmallSimulation
 pub mod SmallCores
 pub mod Stretches
-pub mod Whole
+pub mod SmallSources

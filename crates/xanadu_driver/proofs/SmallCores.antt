@@ -11,7 +11,7 @@ use Rattle.std.proofs.lemmas.List.{nil_from_length, length-replicate}
 use Rattle.std.proofs.lemmas.List.FromFn.{length-map-range_with_len}
 use Rattle.std.proofs.lemmas.Option.{same_Some}
 use Rattle.std.proofs.lemmas.Slice.Eq.{bytes_eq-Decides}
-use Rattle.dtal_code.proofs.Steps.{fits_word-true, fits_word-fits}
+use Rattle.dtal_code.proofs.StraightSteps.{fits_word-true, fits_word-fits}
 use Rattle.std.specs.Prelude.{Vec, Box}
 use Rattle.std.specs.declared.alloc.Global.{Global}
 use Rattle.xanadu_tree.specs.declared.expr.CoreExpr.{CoreExpr, map-CoreExpr, fold-CoreExpr, fold_out-CoreExpr, roll-CoreExpr, out-CoreExpr, roll-out-CoreExpr}

@@ -6,8 +6,8 @@ use Rattle.dtal_code.specs.declared.op.Op.{Op as Instr}
 use Rattle.dtal_code.specs.declared.op.Op.TheVariants as instr
 use Rattle.dtal_code.specs.Machine.{Off, step, run, fits_word}
 use Rattle.dtal_code.proofs.Alone.{alone, alone-li, alone-mv, alone-add, alone-sub, alone-add_overflow, alone-sub_overflow}
-use Rattle.dtal_code.proofs.Arguments.{fetch-after}
-use Rattle.dtal_code.proofs.Steps.{length-put, get-put_same, get-put_other, fits_word-fits, fits_word-true, Goes, goes-none, goes-then, goes-ends}
+use Rattle.dtal_code.proofs.EntryArguments.{fetch-after}
+use Rattle.dtal_code.proofs.StraightSteps.{length-put, get-put_same, get-put_other, fits_word-fits, fits_word-true, Goes, goes-none, goes-then, goes-ends}
 use Rattle.xanadu_tree.specs.declared.expr.Op.{Op}
 use Rattle.xanadu_tree.specs.declared.expr.Op.TheVariants.{Add, Sub, Mul, Div, Mod}
 use Rattle.xanadu_tree.specs.Plain as plain

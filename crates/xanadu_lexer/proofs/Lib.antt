@@ -1,5 +1,5 @@
-pub mod Values
-pub mod Steps
+pub mod DigitValues
+pub mod PieceSteps
 pub mod Bytes
 pub mod Longest
 pub mod Words

@@ -20,7 +20,7 @@ use Rattle.xanadu_lexer.specs.declared.token.TokenKind.TheVariants as kind
 use Rattle.xanadu_lexer.specs.Spelling.{keyword_text, symbol_text, value}
 use Rattle.xanadu_lexer.specs.Rules.{is_blank, Each, IsGap, Blank, Comment, IsPiece, Gapped, Word, Digits, Mark, IsLongest, IsWord, IsLower, IsNumber, IsToken, with_token, Lexes, Ended, AfterGap, AfterToken, BadNumber, BadByte}
 use Rattle.xanadu_lexer.specs.Lexing.{keyword_of, word_from, long_symbols, short_symbols, symbol_among, front, with_piece, lexed_from, lexed}
-use Rattle.xanadu_lexer.proofs.Steps.{lexed_from-passes}
+use Rattle.xanadu_lexer.proofs.PieceSteps.{lexed_from-passes}
 use Rattle.xanadu_lexer.proofs.Bytes.{digit-blank}
 use Rattle.xanadu_lexer.proofs.Longest.{reach, length-le-reach_of}
 use Rattle.xanadu_lexer.proofs.Words.{keyword_of-text, first_passes}

@@ -20,7 +20,7 @@ use Rattle.xanadu_parser.specs.Tables.{mark, keyword, is_symbol, is_keyword}
 use Rattle.xanadu_parser.specs.Types as types
 use Rattle.xanadu_parser.specs.Statements as read
 use Rattle.xanadu_parser.proofs.Deeper.{exact-none, exact-deeper}
-use Rattle.xanadu_parser.proofs.Saying.{Said, Formed, Any, Ends, spelled-append, spelled-split, spelled-first, spelled-none, said-take, formed-made, formed-field, said-of, said-choice, said-choice-any, said-give, ends-mark}
+use Rattle.xanadu_parser.proofs.SpelledLanguages.{Said, Formed, Any, Ends, spelled-append, spelled-split, spelled-first, spelled-none, said-take, formed-made, formed-field, said-of, said-choice, said-choice-any, said-give, ends-mark}
 use Rattle.xanadu_parser.proofs.Taken.{at_0, mark-kind, mark-table, keyword-kind, keyword-table}
 use Rattle.xanadu_parser.proofs.Follows.{by_word, no_word, fewer_words, mark-none, keyword-none, not_taken, no_text}
 use Rattle.xanadu_parser.proofs.TypeLaws.{FitsClause, exact-clause}

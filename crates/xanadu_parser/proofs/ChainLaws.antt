@@ -9,7 +9,7 @@ use Rattle.xan_read.specs.Symbols.{eat, where_comes, repeated}
 use Rattle.xan_read.specs.Rooms.{ExactWithin}
 use Rattle.xanadu_parser.specs.Reader.{Table, Family}
 use Rattle.xanadu_parser.specs.Tables.{mark}
-use Rattle.xanadu_parser.proofs.Saying.{Said, Formed, Any, Ends, spelled-none, formed-made, formed-map, formed-field, said-of, said-choice, ends-mark, IsTable}
+use Rattle.xanadu_parser.proofs.SpelledLanguages.{Said, Formed, Any, Ends, spelled-none, formed-made, formed-map, formed-field, said-of, said-choice, ends-mark, IsTable}
 use Rattle.xanadu_parser.proofs.SayingLists.{said-repeated}
 use Rattle.xanadu_parser.proofs.Taken.{mark-table}
 use Rattle.xanadu_parser.proofs.Follows.{by_mark, fewer, ends_at}

@@ -23,7 +23,7 @@ use Rattle.xanadu_parser.specs.Index as index
 use Rattle.xanadu_parser.specs.Types as types
 use Rattle.xanadu_parser.specs.Statements.{block}
 use Rattle.xanadu_parser.specs.Declarations as read
-use Rattle.xanadu_parser.proofs.Saying.{Said, Formed, Any, Ends, said-take, formed-give, formed-made, formed-map, formed-field, formed-behind, said-of, said-choice, said-choice-any, formed-as, said-before, ends-mark}
+use Rattle.xanadu_parser.proofs.SpelledLanguages.{Said, Formed, Any, Ends, said-take, formed-give, formed-made, formed-map, formed-field, formed-behind, said-of, said-choice, said-choice-any, formed-as, said-before, ends-mark}
 use Rattle.xanadu_parser.proofs.Taken.{at_0, mark-kind, mark-table, keyword-table, lower-table, upper-table}
 use Rattle.xanadu_parser.proofs.Follows.{by_mark, ends_at, mark-none, keyword-none, not_taken}
 use Rattle.xanadu_parser.proofs.IndexLaws.{exact-quantifier, said-quantified, IsQuantified, behind_brace, MayBeQuantified, no_brace}

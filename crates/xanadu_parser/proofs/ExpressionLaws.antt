@@ -20,7 +20,7 @@ use Rattle.xanadu_parser.specs.Reader.{Family}
 use Rattle.xanadu_parser.specs.Tables.{mark, is_symbol}
 use Rattle.xanadu_parser.specs.Types.{element}
 use Rattle.xanadu_parser.specs.Expressions as read
-use Rattle.xanadu_parser.proofs.Saying.{Said, Formed, Any, Ends, formed-give, formed-made, formed-field, formed-behind, said-of, said-choice-any, formed-of, said-before, said-give, ends-mark}
+use Rattle.xanadu_parser.proofs.SpelledLanguages.{Said, Formed, Any, Ends, formed-give, formed-made, formed-field, formed-behind, said-of, said-choice-any, formed-of, said-before, said-give, ends-mark}
 use Rattle.xanadu_parser.proofs.SayingLists.{said-separated}
 use Rattle.xanadu_parser.proofs.Taken.{at_0, mark-kind}
 use Rattle.xanadu_parser.proofs.Follows.{by_mark, no_mark, fewer, ends_at, mark-none, not_taken, no_text}

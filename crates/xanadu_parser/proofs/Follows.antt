@@ -12,7 +12,7 @@ use Rattle.xanadu_tree.specs.Pieces.{Piece, Spelled}
 use Rattle.xan_read.specs.Symbols.{eat}
 use Rattle.xan_read.proofs.TableLaws.{eat-none, eat-other}
 use Rattle.xanadu_parser.specs.Reader.{Table}
-use Rattle.xanadu_parser.proofs.Saying.{Ends}
+use Rattle.xanadu_parser.proofs.SpelledLanguages.{Ends}
 use Rattle.xanadu_parser.proofs.MarkSets.{among}
 
 -- a mark that passes the test

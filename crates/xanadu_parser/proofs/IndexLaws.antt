@@ -29,7 +29,7 @@ use Rattle.xan_read.proofs.TableLaws.{eat-other}
 use Rattle.xanadu_parser.specs.Tables.{mark, keyword, lower, number, symbol_among, is_symbol}
 use Rattle.xanadu_parser.specs.Tables as table
 use Rattle.xanadu_parser.specs.Index as read
-use Rattle.xanadu_parser.proofs.Saying.{Said, Formed, Any, Ends, spelled-first, spelled-none, said-take, formed-give, formed-made, formed-field, formed-behind, said-of, said-choice, said-choice-any, formed-of, formed-map, said-give, said-forget, ends-mark, IsTable}
+use Rattle.xanadu_parser.proofs.SpelledLanguages.{Said, Formed, Any, Ends, spelled-first, spelled-none, said-take, formed-give, formed-made, formed-field, formed-behind, said-of, said-choice, said-choice-any, formed-of, formed-map, said-give, said-forget, ends-mark, IsTable}
 use Rattle.xanadu_parser.proofs.SayingLists.{said-repeated, said-separated}
 use Rattle.xanadu_parser.proofs.Taken.{at_0, mark-kind, mark-table, keyword-kind, lower-table, number-table, among-table, some_same}
 use Rattle.xanadu_parser.proofs.Follows.{by_mark, no_mark, no_among, fewer, ends_at, number-none, mark-none, keyword-none, term_marks, index_marks, after_term, after_index, not_taken}

@@ -22,7 +22,7 @@ use Rattle.xanadu_parser.specs.Tables.{mark, symbol_among, is_symbol}
 use Rattle.xanadu_parser.specs.Tables as table
 use Rattle.xanadu_parser.specs.Expressions as read
 use Rattle.xanadu_parser.proofs.Deeper.{exact-none, exact-deeper}
-use Rattle.xanadu_parser.proofs.Saying.{Said, Formed, Ends, spelled-none, formed-made, formed-map, formed-field, said-of, said-choice-shown, said-before, said-give, said-fewer, ends-mark, IsTable}
+use Rattle.xanadu_parser.proofs.SpelledLanguages.{Said, Formed, Ends, spelled-none, formed-made, formed-map, formed-field, said-of, said-choice-shown, said-before, said-give, said-fewer, ends-mark, IsTable}
 use Rattle.xanadu_parser.proofs.SayingLists.{said-repeated}
 use Rattle.xanadu_parser.proofs.ChainLaws.{exact-chain, exact-marked}
 use Rattle.xanadu_parser.proofs.Taken.{at_0, mark-kind, mark-table, among-table, some_same}

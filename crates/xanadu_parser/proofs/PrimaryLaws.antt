@@ -18,7 +18,7 @@ use Rattle.xan_read.specs.Rooms.{ExactWithin}
 use Rattle.xanadu_parser.specs.Reader.{Table, Family}
 use Rattle.xanadu_parser.specs.Tables.{mark, keyword, lower, upper, number, is_keyword, as_lower, as_upper, as_number}
 use Rattle.xanadu_parser.specs.Expressions as read
-use Rattle.xanadu_parser.proofs.Saying.{Said, Any, Ends, said-take, formed-give, formed-made, formed-field, said-of, said-choice}
+use Rattle.xanadu_parser.proofs.SpelledLanguages.{Said, Any, Ends, said-take, formed-give, formed-made, formed-field, said-of, said-choice}
 use Rattle.xanadu_parser.proofs.Taken.{mark-table, keyword-table, lower-table, upper-table, number-table}
 use Rattle.xanadu_parser.proofs.Follows.{by_mark, keyword-none, number-none, lower-none, upper-none, not_taken}
 use Rattle.xanadu_parser.proofs.ExpressionLaws.{after_expression, FitsExpression, first_piece, then_paren, later_pieces, primary_split, FitsPrimary, rank, From, SomeFit, closed_arguments, list_of, list_of-is, named_of, named_fits, named_parts, AfterPrimary, named_said, tuple_said, closed_said, length_said, new_fits, new_parts, new_said}

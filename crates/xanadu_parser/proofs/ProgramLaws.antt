@@ -11,7 +11,7 @@ use Rattle.xan_read.specs.Symbols.{OneThen}
 use Rattle.xan_read.proofs.AlikeLaws.{alike_through, done, failed, ok_parts, err_is}
 use Rattle.xanadu_parser.specs.Reader.{Read}
 use Rattle.xanadu_parser.specs.Declarations.{declaration, declarations_from}
-use Rattle.xanadu_parser.proofs.Saying.{Said}
+use Rattle.xanadu_parser.proofs.SpelledLanguages.{Said}
 use Rattle.xanadu_parser.proofs.DeclarationLaws.{FitsDeclaration, exact-declaration}
 
 abbrev pub IsText : plain.Declaration → List Token → Type 0

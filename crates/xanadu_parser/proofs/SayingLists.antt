@@ -8,7 +8,7 @@ use Rattle.xan_read.specs.Rooms.{ExactWithin}
 use Rattle.xan_read.proofs.RoomLaws.{within-as}
 use Rattle.xan_read.proofs.RemainingLists.{within-repeated}
 use Rattle.xanadu_parser.specs.Reader.{Table, Family}
-use Rattle.xanadu_parser.proofs.Saying.{Said, Formed, spelled-append, spelled-split, spelled-first, spelled-none, IsKind, formed-field}
+use Rattle.xanadu_parser.proofs.SpelledLanguages.{Said, Formed, spelled-append, spelled-split, spelled-first, spelled-none, IsKind, formed-field}
 
 -- ---- items, each behind a token of a table
 

@@ -20,7 +20,7 @@ use Rattle.xanadu_parser.specs.Reader.{Family}
 use Rattle.xanadu_parser.specs.Tables.{mark, keyword, lower, is_keyword}
 use Rattle.xanadu_parser.specs.Expressions.{expression, arguments, indices}
 use Rattle.xanadu_parser.specs.Statements as read
-use Rattle.xanadu_parser.proofs.Saying.{Said, Formed, Any, Ends, spelled-append, spelled-split, said-take, formed-give, formed-made, formed-field, formed-behind, said-of, said-choice, said-choice-any, formed-of, said-before, ends-mark}
+use Rattle.xanadu_parser.proofs.SpelledLanguages.{Said, Formed, Any, Ends, spelled-append, spelled-split, said-take, formed-give, formed-made, formed-field, formed-behind, said-of, said-choice, said-choice-any, formed-of, said-before, ends-mark}
 use Rattle.xanadu_parser.proofs.SayingLists.{said-separated}
 use Rattle.xanadu_parser.proofs.Taken.{at_0, mark-kind, keyword-table, lower-table}
 use Rattle.xanadu_parser.proofs.Follows.{by_mark, no_mark, ends_at, mark-none, keyword-none, not_taken}

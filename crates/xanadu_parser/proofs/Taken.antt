@@ -14,7 +14,7 @@ use Rattle.xanadu_tree.specs.Pieces.{IsPiece, placed}
 use Rattle.xanadu_tree.specs.Spelling as spelling
 use Rattle.xanadu_parser.specs.Tables.{is_keyword, is_symbol, keyword, mark, by_symbol, symbol_among, lower, as_lower, upper, as_upper, number, as_number}
 use Rattle.xanadu_parser.specs.Tables as table
-use Rattle.xanadu_parser.proofs.Saying.{IsTable, IsKind, Any}
+use Rattle.xanadu_parser.proofs.SpelledLanguages.{IsTable, IsKind, Any}
 
 abbrev pub some : {A : Type 0} → A → Option A
 some x = Some x

@@ -24,7 +24,7 @@ use Rattle.xanadu_parser.specs.Reader.{Reader}
 use Rattle.xanadu_parser.specs.Tables.{mark, keyword, lower, upper, is_symbol}
 use Rattle.xanadu_parser.specs.Index as index
 use Rattle.xanadu_parser.specs.Types as read
-use Rattle.xanadu_parser.proofs.Saying.{Said, Formed, Any, Ends, spelled-append, spelled-split, said-take, formed-give, formed-made, formed-field, formed-behind, said-of, said-choice, said-choice-any, formed-of, formed-as, said-before, said-give}
+use Rattle.xanadu_parser.proofs.SpelledLanguages.{Said, Formed, Any, Ends, spelled-append, spelled-split, said-take, formed-give, formed-made, formed-field, formed-behind, said-of, said-choice, said-choice-any, formed-of, formed-as, said-before, said-give}
 use Rattle.xanadu_parser.proofs.SayingLists.{said-separated}
 use Rattle.xanadu_parser.proofs.Taken.{at_0, mark-kind, mark-table, keyword-table, lower-table, upper-table}
 use Rattle.xanadu_parser.proofs.Follows.{by_mark, no_mark, fewer, ends_at, mark-none, keyword-none, after_index, not_taken, no_text}

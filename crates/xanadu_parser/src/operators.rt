@@ -73,7 +73,7 @@ fn index_relation(symbol: Symbol) -> Option<IndexRelation>
 }
 
 /// Takes such a mark where it comes next, and gives what it stands for with its offset.
-#[tactic(auto, using(crate::proofs::Eating::eat_among))]
+#[tactic(auto, using(crate::proofs::NextMarks::eat_among))]
 pub fn eat_sum_operator(tokens: &mut Tokens<'_>) -> Option<(Op, u32)>
     ensures { Eats (λ x. x) result tokens.old tokens.new (eat (table.symbol_among table.sum_operator) tokens.old) }
 {
@@ -84,7 +84,7 @@ pub fn eat_sum_operator(tokens: &mut Tokens<'_>) -> Option<(Op, u32)>
 }
 
 /// Takes such a mark where it comes next, and gives what it stands for with its offset.
-#[tactic(auto, using(crate::proofs::Eating::eat_among))]
+#[tactic(auto, using(crate::proofs::NextMarks::eat_among))]
 pub fn eat_product_operator(tokens: &mut Tokens<'_>) -> Option<(Op, u32)>
     ensures { Eats (λ x. x) result tokens.old tokens.new (eat (table.symbol_among table.product_operator) tokens.old) }
 {
@@ -95,7 +95,7 @@ pub fn eat_product_operator(tokens: &mut Tokens<'_>) -> Option<(Op, u32)>
 }
 
 /// Takes such a mark where it comes next, and gives what it stands for with its offset.
-#[tactic(auto, using(crate::proofs::Eating::eat_among))]
+#[tactic(auto, using(crate::proofs::NextMarks::eat_among))]
 pub fn eat_relation(tokens: &mut Tokens<'_>) -> Option<(Rel, u32)>
     ensures { Eats (λ x. x) result tokens.old tokens.new (eat (table.symbol_among table.relation) tokens.old) }
 {
@@ -106,7 +106,7 @@ pub fn eat_relation(tokens: &mut Tokens<'_>) -> Option<(Rel, u32)>
 }
 
 /// Takes such a mark where it comes next, and gives what it stands for with its offset.
-#[tactic(auto, using(crate::proofs::Eating::eat_among))]
+#[tactic(auto, using(crate::proofs::NextMarks::eat_among))]
 pub fn eat_sign(tokens: &mut Tokens<'_>) -> Option<(Sign, u32)>
     ensures { Eats (λ x. x) result tokens.old tokens.new (eat (table.symbol_among table.sign) tokens.old) }
 {
@@ -117,7 +117,7 @@ pub fn eat_sign(tokens: &mut Tokens<'_>) -> Option<(Sign, u32)>
 }
 
 /// Takes such a mark where it comes next, and gives what it stands for with its offset.
-#[tactic(auto, using(crate::proofs::Eating::eat_among))]
+#[tactic(auto, using(crate::proofs::NextMarks::eat_among))]
 pub fn eat_index_relation(tokens: &mut Tokens<'_>) -> Option<(IndexRelation, u32)>
     ensures { Eats (λ x. x) result tokens.old tokens.new (eat (table.symbol_among table.index_relation) tokens.old) }
 {

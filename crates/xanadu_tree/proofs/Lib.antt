@@ -1,10 +1,10 @@
 pub mod Equations
-pub mod Examples
+pub mod TreeExamples
 pub mod Laid
 pub mod LaidExpressions
 pub mod LaidTrees
 pub mod LaidTypes
-pub mod Loops
+pub mod PrintedLists
 pub mod ReadBack
 pub mod StatementTexts
 pub mod Texts

@@ -213,7 +213,7 @@ fn lines_of_goals_are_cut(rt: HostRuntime) -> Result<(), Fail> {
 }
 
 /// Where a source begins, what stands in front of each number, behind it and in front of the next, how many numbers there are, where the
-/// source ends, and the limit that it passes.
+/// source ends, and the limit that it passes by one.
 const LIMITS: &[(&[u8], &[u8], &[u8], usize, &[u8], &[u8])] = &[
     (
         b"fun main(): int { return 0; } ",
@@ -259,7 +259,7 @@ const LIMITS: &[(&[u8], &[u8], &[u8], usize, &[u8], &[u8])] = &[
         b"fun main(): int { var y = 0; ",
         b"var x",
         b" = 0; ",
-        240,
+        239,
         b"return 0; }",
         b"limit: places 240\n",
     ),
@@ -307,6 +307,8 @@ fn each_limit_of_elaboration(rt: HostRuntime) -> Result<(), Fail> {
                 None
             )
         );
+        let within = numbered(alloc, first, before, behind, count.saturating_sub(1), last)?;
+        assert_eq!(rt; keeping(alloc, within.as_slice())?.status, 20);
     }
     Ok(())
 }
@@ -356,12 +358,46 @@ fn chain(alloc: Global, count: usize) -> Result<Vec<u8>, Memory> {
     Ok(source)
 }
 
+/// Adds a number of at most six digits.
+fn push_decimal(source: &mut Vec<u8>, number: usize) -> Result<(), Memory> {
+    let mut begun = false;
+    for part in [100_000usize, 10_000, 1_000, 100, 10, 1] {
+        begun = begun || number >= part;
+        if begun {
+            source.push(b'0' + (number / part % 10) as u8)?;
+        }
+    }
+    Ok(())
+}
+
+/// Three numbers, between which so many pairs of tests stand whose sums all differ, before the first is a divisor.
+fn fan(alloc: Global, count: usize) -> Result<Vec<u8>, Memory> {
+    let mut source = Vec::from_slice(alloc, b"fun main(x: int, y: int, z: int): int { if (0 <= 0")?;
+    for before in 0..count {
+        let slope = before.saturating_add(1);
+        let square = slope.saturating_mul(slope);
+        source.extend_from_slice(b" && x + ")?;
+        push_decimal(&mut source, square)?;
+        source.extend_from_slice(b" * z >= ")?;
+        push_decimal(&mut source, slope)?;
+        source.extend_from_slice(b" * y && ")?;
+        push_decimal(&mut source, slope)?;
+        source.extend_from_slice(b" * y >= x + ")?;
+        push_decimal(&mut source, square.saturating_mul(slope))?;
+        source.extend_from_slice(b" * z")?;
+    }
+    source.extend_from_slice(b") { return 7 / x; } return 0; }")?;
+    Ok(source)
+}
+
 #[test]
 fn limits_of_forms_and_of_goals(rt: HostRuntime) -> Result<(), Fail> {
     let alloc = rt.alloc();
     let large: &[u8] = b"fun main{n: int | n <= 9223372036854775807}(x: int(n)): int { return x; }";
     let magnitude: &[u8] = b"limit: magnitude 4611686018427387903\n";
     assert!(rt; is_left(&keeping(alloc, large)?, 5, magnitude));
+    let bound: &[u8] = b"fun main{n: int | n <= 4611686018427387903}(x: int(n)): int { return x; }";
+    assert!(rt; keeping(alloc, bound)?.status != 5);
     let terms = wide_clause(alloc, 16)?;
     assert!(rt; is_left(&keeping(alloc, terms.as_slice())?, 5, b"limit: terms 16\n"));
     assert_eq!(rt;
@@ -375,5 +411,18 @@ fn limits_of_forms_and_of_goals(rt: HostRuntime) -> Result<(), Fail> {
     assert!(rt; listed.status == 5 && listed.said.as_slice().ends_with(b": limit cone 64\n"));
     let fewer = chain(alloc, 64)?;
     assert_eq!(rt; keeping(alloc, fewer.as_slice())?.status, 10);
+    // One round of 46 pairs comes to 2,042 rows, and one of 45 pairs to 1,952.
+    let wide = fan(alloc, 46)?;
+    assert!(rt;
+        is_left(
+            &keeping(alloc, wide.as_slice())?,
+            5,
+            b"limit: system 2000\n"
+        )
+    );
+    let listed = plain(alloc, GOALS, Some(wide.as_slice()))?;
+    assert!(rt; listed.status == 5 && listed.said.as_slice().ends_with(b": limit system 2000\n"));
+    let narrow = fan(alloc, 45)?;
+    assert_eq!(rt; keeping(alloc, narrow.as_slice())?.status, 10);
     Ok(())
 }

@@ -1,5 +1,6 @@
 //! What tests of rows share: contexts of rows, and how rows are spelled.
 use index_sorts::Context;
+use proof_lines::{Line, read_lines};
 use std::alloc::Global;
 use xan_lin::Form;
 
@@ -10,6 +11,29 @@ pub(crate) fn add(context: &mut Context, row: Form) -> Option<()> {
         context.add(row).ok()
     } else {
         None
+    }
+}
+
+/// The context of the rows of a text like `by h +1v0+0;h -1`, with 100 variables.
+pub(crate) fn context_of(alloc: Global, text: &[u8]) -> Option<Context> {
+    let mut context = Context::new(alloc, 100).ok()?;
+    if text.is_empty() {
+        return Some(context);
+    }
+    for line in read_lines(alloc, text).ok()? {
+        if let Line::Hyp(form) = line {
+            add(&mut context, form)?;
+        }
+    }
+    Some(context)
+}
+
+/// The row of a text like `by h +1v0+0`.
+pub(crate) fn form_of(alloc: Global, text: &[u8]) -> Option<Form> {
+    let mut lines = read_lines(alloc, text).ok()?;
+    match lines.pop()? {
+        Line::Hyp(form) => Some(form),
+        _ => None,
     }
 }
 

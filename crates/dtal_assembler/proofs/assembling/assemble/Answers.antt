@@ -1,7 +1,7 @@
 use Rattle.std.proofs.Common.{◌<◌, ◌^◌, sym, subst, IsSome}
 use Rattle.dtal_code.specs.Declarations.{main_of}
 use Rattle.dtal_code.specs.ObjectCode.{program_size}
-use Rattle.dtal_assembler.proofs.Sizes.{program_few, main_there}
+use Rattle.dtal_assembler.proofs.AcceptedSizes.{program_few, main_there}
 use Rattle.dtal_assembler.proofs.assembling.assemble.Goals as goal
 
 pub count_in_functions-past-requires : goal.count_in_functions-past-requires

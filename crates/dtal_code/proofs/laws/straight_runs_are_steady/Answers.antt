@@ -1,4 +1,4 @@
-use Rattle.dtal_code.proofs.Steps.{outcome_from-is_steady}
+use Rattle.dtal_code.proofs.StraightSteps.{outcome_from-is_steady}
 use Rattle.dtal_code.proofs.laws.straight_runs_are_steady.Goals as goal
 
 pub returns : goal.returns

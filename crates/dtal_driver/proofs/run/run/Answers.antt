@@ -1,6 +1,6 @@
 use Rattle.std.proofs.Common.{rules, ◌≡◌, ◌-◌, ◌+◌, suc, FitsSigned, w64, arith}
 use Rattle.std.proofs.lemmas.Int.{to_z-of_z}
-use Rattle.dtal_driver.proofs.Running.{runs-begin, runs-going, runs-print, runs-cut, runs-returned, runs-overflow, runs-not_spent}
+use Rattle.dtal_driver.proofs.MachineRuns.{runs-begin, runs-going, runs-print, runs-cut, runs-returned, runs-overflow, runs-not_spent}
 use Rattle.dtal_driver.specs.Report.{steps}
 use Rattle.dtal_driver.proofs.run.run.Goals as goal
 use Rattle.dtal_driver.proofs.run.run.Goals.{in-Going, in-Print+in_ok-put_number-in-Print}

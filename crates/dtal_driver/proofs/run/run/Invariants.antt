@@ -1,7 +1,7 @@
 use Rattle.std.proofs.Common.{◌-◌, []}
 use Rattle.dtal_machine.specs.Steps.{run_on}
 use Rattle.dtal_driver.specs.Report.{steps}
-use Rattle.dtal_driver.proofs.Running.{RunsOn}
+use Rattle.dtal_driver.proofs.MachineRuns.{RunsOn}
 use Rattle.dtal_driver.proofs.run.run.Given as goal
 
 abbrev pub invariant-loop-step : goal.invariant-loop-step

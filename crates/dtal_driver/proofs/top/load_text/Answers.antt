@@ -7,7 +7,7 @@ use Rattle.dtal_driver.proofs.top.load_text.Goals as goal
 pub returns-in_err-program-clause-caused : goal.returns-in_err-program-clause-caused
 returns-in_err-program-clause-caused g c =
     let cause =
-    refuses-cause (Run c.args.text.now c.args.args.now) (g.F.Files.content c.args.files.now) (g.F.Files.read_faults c.args.files.now)
+    refuses-cause c.args.text.now c.args.args.now (g.F.Files.content c.args.files.now) (g.F.Files.read_faults c.args.files.now)
     (g.F.Files.read_faults c.accepted_program.new.files) _ c.in_err-program.ensures.refused in
     search (rules, cause)
 

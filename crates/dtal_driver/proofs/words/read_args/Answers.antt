@@ -1,5 +1,5 @@
 use Rattle.std.proofs.Common.{ap, Err}
-use Rattle.dtal_driver.proofs.Arguments.{behind-none, args-more, args-none, args-end}
+use Rattle.dtal_driver.proofs.ArgumentWords.{behind-none, args-more, args-none, args-end}
 use Rattle.dtal_driver.proofs.words.read_args.Goals as goal
 
 pub loop-word-init : goal.loop-word-init

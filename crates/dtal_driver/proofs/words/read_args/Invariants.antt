@@ -1,7 +1,7 @@
 use Rattle.std.proofs.Common.{◌≡◌, drop}
 use Rattle.xan_io.specs.Words.{texts}
 use Rattle.dtal_driver.specs.Words.{args_of}
-use Rattle.dtal_driver.proofs.Arguments.{behind}
+use Rattle.dtal_driver.proofs.ArgumentWords.{behind}
 use Rattle.dtal_driver.proofs.words.read_args.Given as goal
 
 abbrev pub invariant-loop-word : goal.invariant-loop-word

@@ -1,6 +1,6 @@
 use Rattle.std.proofs.Common.{◌≡◌, ◌∙◌, ◌++◌, ◌-◌, ℕ, ℤ, pos, List, length, replicate, take, drop, ap, arith}
 use Rattle.dtal_code.specs.Entry.{arg_words, places_of}
-use Rattle.dtal_code.proofs.Arguments.{length-arg_words}
+use Rattle.dtal_code.proofs.EntryArguments.{length-arg_words}
 use Rattle.dtal_machine.proofs.Machines.{rest_of_same}
 use Rattle.dtal_machine.proofs.loading.first_places.Goals as goal
 

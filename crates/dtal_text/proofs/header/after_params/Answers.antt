@@ -1,6 +1,6 @@
 use Rattle.std.proofs.Common.{◌+◌, ◌-◌, arith}
 use Rattle.std.proofs.lemmas.Result.{err_from_is_err_and}
-use Rattle.dtal_text.proofs.Loops.{param_more, param_gap_fails, param_int_fails, param_none}
+use Rattle.dtal_text.proofs.ParameterLoops.{param_more, param_gap_fails, param_int_fails, param_none}
 use Rattle.dtal_text.proofs.header.after_params.Goals as goal
 
 pub returns-in_err-after_gap : goal.returns-in_err-after_gap

@@ -1,5 +1,5 @@
 use Rattle.std.proofs.Common.{sym, ◌∙◌}
-use Rattle.dtal_text.proofs.Loops.{ends_last-is}
+use Rattle.dtal_text.proofs.ParameterLoops.{ends_last-is}
 use Rattle.dtal_text.proofs.program.ends_last.Goals as goal
 
 pub returns-in-len1-up : goal.returns-in-len1-up

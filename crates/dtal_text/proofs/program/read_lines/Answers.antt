@@ -1,6 +1,6 @@
 use Rattle.std.proofs.Common.{◌+◌, ◌-◌, sym, ◌∙◌, arith}
 use Rattle.std.proofs.lemmas.Result.{err_from_is_err_and}
-use Rattle.dtal_text.proofs.Loops.{onto_none, line_more, line_fails, end_comes, end_fails, full_ends, full_fails}
+use Rattle.dtal_text.proofs.ParameterLoops.{onto_none, line_more, line_fails, end_comes, end_fails, full_ends, full_fails}
 use Rattle.dtal_text.proofs.program.read_lines.Goals as goal
 
 pub returns-in_err-rest-in-Some : goal.returns-in_err-rest-in-Some

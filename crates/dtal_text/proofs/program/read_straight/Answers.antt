@@ -1,6 +1,6 @@
 use Rattle.std.proofs.Common.{sym, ap, ◌∙◌, arith}
 use Rattle.dtal_text.specs.Programs.{ends_last}
-use Rattle.dtal_text.proofs.Whole.{accepts, refuses_open, refuses_said}
+use Rattle.dtal_text.proofs.WholeTexts.{accepts, refuses_open, refuses_said}
 use Rattle.dtal_text.proofs.program.read_straight.Goals as goal
 
 pub returns-then-ends_last-clause-exact : goal.returns-then-ends_last-clause-exact

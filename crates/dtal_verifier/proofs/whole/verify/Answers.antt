@@ -1,4 +1,4 @@
-use Rattle.dtal_verifier.proofs.Accepting.{passed_is_verified, passed_is_accepted, refused_so, accepted_is_not_refused}
+use Rattle.dtal_verifier.proofs.VerdictLaws.{passed_is_verified, passed_is_accepted, refused_so, accepted_is_not_refused}
 use Rattle.dtal_verifier.proofs.whole.verify.Goals as goal
 
 pub returns-in-Err-clause-complete : goal.returns-in-Err-clause-complete

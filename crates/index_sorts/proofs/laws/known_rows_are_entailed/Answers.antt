@@ -1,4 +1,4 @@
-use Rattle.index_sorts.proofs.Knowing.{known-entailed}
+use Rattle.index_sorts.proofs.KnownRows.{known-entailed}
 use Rattle.index_sorts.proofs.laws.known_rows_are_entailed.Goals as goal
 
 pub returns : goal.returns

@@ -1,6 +1,6 @@
 use Rattle.std.proofs.Common.{get_or, arith}
 use Rattle.linear_solver.specs.declared.source.Sign.TheVariants.{Positive, Negative}
-use Rattle.linear_solver.proofs.Ranges.{with_sign-few}
+use Rattle.linear_solver.proofs.RowCounts.{with_sign-few}
 use Rattle.linear_solver.proofs.choose.candidate.Goals as goal
 
 pub choice_of-requires-clause-positive : goal.choice_of-requires-clause-positive

@@ -1,12 +1,11 @@
-use Rattle.std.proofs.Common.{◌≡◌, ◌+◌, ◌≤◌, length, vec_capacity}
+use Rattle.std.proofs.Common.{◌≡◌, ◌+◌, ◌≤◌, length}
 use Rattle.proof_lines.specs.Variables.{with_terms}
 use Rattle.linear_solver.proofs.cone.add_terms.Given as goal
 
 abbrev pub invariant-terms : goal.invariant-terms
 invariant-terms l = record {
-  same : with_terms l.vars.items l.rest ≡ with_terms l.fn.vars.items l.terms;
-  few : length l.vars.items + length l.rest ≤ length l.fn.vars.items + length l.terms;
-  capacity : vec_capacity l.fn.vars ≤ vec_capacity l.vars;
+  same : with_terms l.found l.rest ≡ with_terms l.fn.found l.terms;
+  few : length l.found + length l.rest ≤ length l.fn.found + length l.terms;
 }
 
 abbrev pub decreases-terms : goal.decreases-terms

@@ -1,28 +1,22 @@
-use Rattle.std.proofs.Common.{get_or, ◌<◌, length, arith}
+use Rattle.std.proofs.Common.{◌<◌, length, arith}
 use Rattle.linear_solver.specs.declared.source.Sign.TheVariants.{Positive, Negative}
-use Rattle.linear_solver.specs.Region.{no_row}
-use Rattle.linear_solver.proofs.Fetching.{coefficient_in}
-use Rattle.linear_solver.proofs.Tallies.{tallied_few, tallied_more, tallied_all}
+use Rattle.linear_solver.proofs.Tallies.{tallied_more, tallied_all, few_more}
 use Rattle.linear_solver.proofs.counts.count_all.Goals as goal
-
-pub add_signs-requires-clause-small : goal.add_signs-requires-clause-small
-add_signs-requires-clause-small c column h =
-    tallied_few Positive c.args.work.now.vars c.args.work.now.rows _ c.rows.at 2000 c.rows.invariant.some c.requires column (omega (arith, h, c.coefficients-cells.ensures.wide))
-
-pub add_signs-requires-in-rows-clause-small : goal.add_signs-requires-in-rows-clause-small
-add_signs-requires-in-rows-clause-small c column h =
-    tallied_few Negative c.args.work.now.vars c.args.work.now.rows _ c.rows.at 2000 c.rows.invariant.others c.requires column (omega (arith, h, c.coefficients-cells.ensures.wide))
 
 pub rows-preserved : goal.rows-preserved
 rows-preserved c =
     let live : c.rows.at < length c.args.work.now.rows = omega (arith, c.rows-test.true, c.count-at-end.ensures) in record {
-      some = tallied_more Positive c.args.work.now.vars c.args.work.now.rows c.coefficients-cells.result.now _ _ c.rows.at c.rows.invariant.some live
-          (λ column h. coefficient_in _ _ _ (get_or c.args.work.now.rows c.rows.at no_row) column c.vars-vars.ensures.vars c.vars-vars.ensures.rising h c.coefficients-cells.ensures.linear)
-          (λ column h. c.add_signs.ensures column (omega (arith, h, c.coefficients-cells.ensures.wide)));
-      others = tallied_more Negative c.args.work.now.vars c.args.work.now.rows c.coefficients-cells.result.now _ _ c.rows.at c.rows.invariant.others live
-          (λ column h. coefficient_in _ _ _ (get_or c.args.work.now.rows c.rows.at no_row) column c.vars-vars.ensures.vars c.vars-vars.ensures.rising h c.coefficients-cells.ensures.linear)
-          (λ column h. c.add_signs-in-rows.ensures column (omega (arith, h, c.coefficients-cells.ensures.wide)));
+      some = tallied_more Positive c.args.work.now.vars c.args.work.now.rows _ _ _ c.rows.at c.rows.invariant.some live (λ column h. c.signs-signs.ensures.sign Positive column h) c.add_columns.ensures;
+      others = tallied_more Negative c.args.work.now.vars c.args.work.now.rows _ _ _ c.rows.at c.rows.invariant.others live (λ column h. c.signs-signs.ensures.sign Negative column h) c.add_columns-in-rows.ensures;
+      few = few_more _ _ _ c.rows.at c.rows.invariant.few c.add_columns.ensures;
+      few_others = few_more _ _ _ c.rows.at c.rows.invariant.few_others c.add_columns-in-rows.ensures;
     }
+
+pub add_columns-requires : goal.add_columns-requires
+add_columns-requires c = record { small = λ column. omega (arith, c.rows.invariant.few column, c.rows-test.true, c.count-at-end.ensures, c.requires) }
+
+pub add_columns-requires-in-rows : goal.add_columns-requires-in-rows
+add_columns-requires-in-rows c = record { small = λ column. omega (arith, c.rows.invariant.few_others column, c.rows-test.true, c.count-at-end.ensures, c.requires) }
 
 pub returns-clause-positive : goal.returns-clause-positive
 returns-clause-positive c =

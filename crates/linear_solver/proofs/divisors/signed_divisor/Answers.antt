@@ -1,6 +1,6 @@
 use Rattle.std.proofs.Common.{rules, w64, FitsSigned, ◌∙◌, ap, pos, arith}
 use Rattle.std.proofs.lemmas.Int.{to_z-of_z}
-use Rattle.linear_solver.proofs.Ranges.{divisor-small}
+use Rattle.linear_solver.proofs.RowCounts.{divisor-small}
 use Rattle.linear_solver.proofs.Sparse.{linear-divisor}
 use Rattle.linear_solver.specs.Region.{linear_in}
 use Rattle.linear_solver.proofs.divisors.signed_divisor.Goals as goal

@@ -1,7 +1,7 @@
 use Rattle.linear_solver.specs.Meaning.{lines_meant}
 use Rattle.linear_solver.specs.Elimination.{proof_steps}
-use Rattle.linear_solver.proofs.Proving.{proved-proves}
-use Rattle.proof_lines.proofs.Soundness.{proved-entailed}
+use Rattle.linear_solver.proofs.ProvedSteps.{proved-proves}
+use Rattle.proof_lines.proofs.LineSoundness.{proved-entailed}
 use Rattle.linear_solver.proofs.laws.proved_goals_are_entailed.Goals as goal
 
 pub returns : goal.returns

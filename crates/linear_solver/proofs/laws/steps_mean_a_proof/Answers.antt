@@ -1,4 +1,4 @@
-use Rattle.linear_solver.proofs.Proving.{proved-proves}
+use Rattle.linear_solver.proofs.ProvedSteps.{proved-proves}
 use Rattle.linear_solver.proofs.laws.steps_mean_a_proof.Goals as goal
 
 pub returns : goal.returns

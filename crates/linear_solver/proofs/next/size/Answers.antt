@@ -2,7 +2,7 @@ use Rattle.std.proofs.Common.{rules, w64, FitsSigned, ◌≡◌, ◌∙◌, ap, 
 use Rattle.std.proofs.lemmas.Int.{to_z-of_z}
 use Rattle.linear_solver.specs.Systems.{coefficient}
 use Rattle.linear_solver.specs.Region.{no_row}
-use Rattle.linear_solver.proofs.Summing.{size_small}
+use Rattle.linear_solver.proofs.SummedCells.{size_small}
 use Rattle.linear_solver.proofs.next.size.Goals as goal
 
 pub returns-clause-exact : goal.returns-clause-exact

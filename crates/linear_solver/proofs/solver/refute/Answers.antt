@@ -3,7 +3,7 @@ use Rattle.xan_lin.specs.Linear.{Linear, IsForm}
 use Rattle.linear_solver.specs.Elimination.{refutation}
 use Rattle.linear_solver.specs.Solving.{Answers}
 use Rattle.std.specs.Prelude.{Ok}
-use Rattle.linear_solver.proofs.Proving.{answers_prove}
+use Rattle.linear_solver.proofs.ProvedSteps.{answers_prove}
 use Rattle.linear_solver.proofs.solver.refute.Goals as goal
 
 pub returns-in-Ok-clause-proved : goal.returns-in-Ok-clause-proved

@@ -1,6 +1,6 @@
 use Rattle.std.proofs.Common.{rules, w64, FitsSigned, set, refl, ap, ◌∙◌, arith}
 use Rattle.std.proofs.lemmas.Int.{to_z-of_z}
-use Rattle.proof_lines.proofs.Combining.{combines_none, combines_more, combines_past, constant_past, combines_all}
+use Rattle.proof_lines.proofs.CombinedCells.{combines_none, combines_more, combines_past, constant_past, combines_all}
 use Rattle.proof_lines.proofs.cells.combined.Goals as goal
 
 pub columns-init : goal.columns-init

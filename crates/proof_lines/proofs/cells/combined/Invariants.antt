@@ -1,4 +1,4 @@
-use Rattle.proof_lines.proofs.Combining.{Combining}
+use Rattle.proof_lines.proofs.CombinedCells.{Combining}
 use Rattle.proof_lines.proofs.cells.combined.Given as goal
 
 abbrev pub invariant-columns : goal.invariant-columns

@@ -1,6 +1,6 @@
 use Rattle.std.proofs.Common.{rules, w64, FitsSigned, set, ap, ◌∙◌, arith}
 use Rattle.std.proofs.lemmas.Int.{to_z-of_z}
-use Rattle.proof_lines.proofs.Cutting.{cuts_more, cuts_past, cuts_all}
+use Rattle.proof_lines.proofs.CutCells.{cuts_more, cuts_past, cuts_all}
 use Rattle.proof_lines.proofs.cells.divided.Goals as goal
 
 pub returns-in_default : goal.returns-in_default

@@ -1,4 +1,4 @@
-use Rattle.proof_lines.proofs.Cutting.{Cutting}
+use Rattle.proof_lines.proofs.CutCells.{Cutting}
 use Rattle.proof_lines.proofs.cells.divided.Given as goal
 
 abbrev pub invariant-columns : goal.invariant-columns

@@ -1,7 +1,7 @@
 use Rattle.std.proofs.Common.{pos, set, replicate, get_or, rules, w64, FitsSigned, ap, ◌∙◌}
 use Rattle.std.proofs.lemmas.Int.{to_z-of_z}
 use Rattle.xan_lin.specs.Terms.{no_term}
-use Rattle.proof_lines.proofs.Spreading.{spreads_none, spreads_more, spreads_past, spreads_all}
+use Rattle.proof_lines.proofs.SpreadCells.{spreads_none, spreads_more, spreads_past, spreads_all}
 use Rattle.proof_lines.proofs.cells.spread.Goals as goal
 
 pub terms-init : goal.terms-init

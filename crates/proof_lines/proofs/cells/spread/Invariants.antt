@@ -1,4 +1,4 @@
-use Rattle.proof_lines.proofs.Spreading.{Spreading}
+use Rattle.proof_lines.proofs.SpreadCells.{Spreading}
 use Rattle.proof_lines.proofs.cells.spread.Given as goal
 
 abbrev pub invariant-terms : goal.invariant-terms

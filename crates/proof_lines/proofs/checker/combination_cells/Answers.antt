@@ -1,5 +1,5 @@
 use Rattle.std.proofs.Common.{sym}
-use Rattle.proof_lines.proofs.Filling.{blank_at}
+use Rattle.proof_lines.proofs.FilledCells.{blank_at}
 use Rattle.proof_lines.proofs.checker.combination_cells.Goals as goal
 
 pub combined-requires-clause-left : goal.combined-requires-clause-left

@@ -1,4 +1,4 @@
-use Rattle.proof_lines.proofs.Steps.{as_hypothesis, as_goal, as_combination, as_cut}
+use Rattle.proof_lines.proofs.CellSteps.{as_hypothesis, as_goal, as_combination, as_cut}
 use Rattle.proof_lines.proofs.checker.line_cells.Goals as goal
 
 pub returns-in-Hyp : goal.returns-in-Hyp

@@ -1,6 +1,6 @@
 use Rattle.std.proofs.Common.{sym, ap, ◌∙◌, arith}
-use Rattle.proof_lines.proofs.Walking.{walks_none, rows_behind, cells-long, from_line, walks_more, walks_all}
-use Rattle.proof_lines.proofs.Filling.{blank-cells}
+use Rattle.proof_lines.proofs.CheckProgress.{walks_none, rows_behind, cells-long, from_line, walks_more, walks_all}
+use Rattle.proof_lines.proofs.FilledCells.{blank-cells}
 use Rattle.proof_lines.proofs.checker.walk.Goals as goal
 
 pub lines-init : goal.lines-init

@@ -1,4 +1,4 @@
-use Rattle.proof_lines.proofs.Walking.{Walking}
+use Rattle.proof_lines.proofs.CheckProgress.{Walking}
 use Rattle.proof_lines.proofs.checker.walk.Given as goal
 
 abbrev pub invariant-lines : goal.invariant-lines

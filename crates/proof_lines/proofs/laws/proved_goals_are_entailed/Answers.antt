@@ -1,4 +1,4 @@
-use Rattle.proof_lines.proofs.Soundness.{proved-entailed}
+use Rattle.proof_lines.proofs.LineSoundness.{proved-entailed}
 use Rattle.proof_lines.proofs.laws.proved_goals_are_entailed.Goals as goal
 
 pub returns : goal.returns

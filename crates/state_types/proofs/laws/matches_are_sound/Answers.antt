@@ -1,4 +1,4 @@
-use Rattle.state_types.proofs.Pairing.{match_sound}
+use Rattle.state_types.proofs.MatchPairs.{match_sound}
 use Rattle.state_types.proofs.laws.matches_are_sound.Goals as goal
 
 pub returns : goal.returns

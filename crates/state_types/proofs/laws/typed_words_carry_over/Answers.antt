@@ -1,4 +1,4 @@
-use Rattle.state_types.proofs.Pairing.{words_carry}
+use Rattle.state_types.proofs.MatchPairs.{words_carry}
 use Rattle.state_types.proofs.laws.typed_words_carry_over.Goals as goal
 
 pub returns : goal.returns

@@ -1,4 +1,4 @@
-use Rattle.state_types.proofs.Refusing.{match_kinds}
+use Rattle.state_types.proofs.KindRefusals.{match_kinds}
 use Rattle.state_types.proofs.refusal_laws.kinds_are_compared_first.Goals as goal
 
 pub returns : goal.returns

@@ -3,7 +3,7 @@ ghost use Rattle.std.specs.Prelude.{◌≡◌, ◌+◌, ◌≤◌, length};
 
 use crate::tests::solver::cases::CASES;
 use crate::tests::solver::room::{held_pool, is_held};
-use crate::tests::solver::run::{context_of, form_of};
+use crate::tests::systems::{context_of, form_of};
 use linear_solver::{Answer, LineBuf, refute};
 use std::alloc::Global;
 use std::test::Fail;

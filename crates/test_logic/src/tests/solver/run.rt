@@ -1,9 +1,9 @@
 //! How a system of a test is run.
 use crate::tests::solver::room::{held_pool, is_held};
-use crate::tests::systems::add;
+use crate::tests::systems::{context_of, form_of};
 use index_sorts::Context;
 use linear_solver::{Answer, LineBuf, refute};
-use proof_lines::{Line, check_lines, read_lines, write_lines};
+use proof_lines::{Line, check_lines, write_lines};
 use std::alloc::Global;
 use xan_lin::Form;
 use xan_pool::RowPool;
@@ -14,29 +14,6 @@ pub(crate) struct Shown {
     pub(crate) answer: Answer,
     pub(crate) accepted: bool,
     pub(crate) as_written: bool,
-}
-
-// The context of the rows of a text like `by h +1v0+0;h -1`, with 100 variables.
-pub(crate) fn context_of(alloc: Global, text: &[u8]) -> Option<Context> {
-    let mut context = Context::new(alloc, 100).ok()?;
-    if text.is_empty() {
-        return Some(context);
-    }
-    for line in read_lines(alloc, text).ok()? {
-        if let Line::Hyp(form) = line {
-            add(&mut context, form)?;
-        }
-    }
-    Some(context)
-}
-
-// The row of a text like `by h +1v0+0`.
-pub(crate) fn form_of(alloc: Global, text: &[u8]) -> Option<Form> {
-    let mut lines = read_lines(alloc, text).ok()?;
-    match lines.pop()? {
-        Line::Hyp(form) => Some(form),
-        _ => None,
-    }
 }
 
 // Whether the checker accepts the lines.

@@ -1,4 +1,4 @@
-use Rattle.xan_io.proofs.Simulation.{agrees}
+use Rattle.xan_io.proofs.ForwardSimulation.{agrees}
 use Rattle.xan_io.proofs.agreement.simulation_agrees.Goals as goal
 
 pub returns : goal.returns

@@ -1,4 +1,4 @@
-use Rattle.xan_lin.proofs.Evaluating.{adds_value, values_added, one_more}
+use Rattle.xan_lin.proofs.TermValues.{adds_value, values_added, one_more}
 use Rattle.xan_lin.proofs.evaluate.value_of_all.Goals as goal
 
 pub loop-term-preserved : goal.loop-term-preserved

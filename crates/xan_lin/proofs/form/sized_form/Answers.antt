@@ -1,6 +1,6 @@
 use Rattle.std.proofs.Common.{sym, arith, w64, FitsSigned, rules}
 use Rattle.std.proofs.lemmas.Int.{to_z-of_z}
-use Rattle.xan_lin.proofs.Sizes.{sized-many, sized-large, fits_is}
+use Rattle.xan_lin.proofs.FormSizes.{sized-many, sized-large, fits_is}
 use Rattle.xan_lin.proofs.form.sized_form.Goals as goal
 
 pub returns-then-terms-gt-MOST_TERMS : goal.returns-then-terms-gt-MOST_TERMS

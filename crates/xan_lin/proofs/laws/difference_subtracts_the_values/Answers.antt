@@ -1,4 +1,4 @@
-use Rattle.xan_lin.proofs.Values.{difference-value}
+use Rattle.xan_lin.proofs.ResultValues.{difference-value}
 use Rattle.xan_lin.proofs.laws.difference_subtracts_the_values.Goals as goal
 
 pub returns : goal.returns

@@ -1,4 +1,4 @@
-use Rattle.xan_lin.proofs.Values.{negated_row-value}
+use Rattle.xan_lin.proofs.ResultValues.{negated_row-value}
 use Rattle.xan_lin.proofs.laws.negated_row_turns_the_value.Goals as goal
 
 pub returns : goal.returns

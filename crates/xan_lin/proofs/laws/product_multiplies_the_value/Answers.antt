@@ -1,4 +1,4 @@
-use Rattle.xan_lin.proofs.Values.{product-value}
+use Rattle.xan_lin.proofs.ResultValues.{product-value}
 use Rattle.xan_lin.proofs.laws.product_multiplies_the_value.Goals as goal
 
 pub returns : goal.returns

@@ -1,4 +1,4 @@
-use Rattle.xan_lin.proofs.Substituting.{subst-value}
+use Rattle.xan_lin.proofs.SubstitutedValues.{subst-value}
 use Rattle.xan_lin.proofs.laws.subst_takes_given_values.Goals as goal
 
 pub returns : goal.returns

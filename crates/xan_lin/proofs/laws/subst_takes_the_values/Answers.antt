@@ -1,4 +1,4 @@
-use Rattle.xan_lin.proofs.Substituting.{subst-given_value}
+use Rattle.xan_lin.proofs.SubstitutedValues.{subst-given_value}
 use Rattle.xan_lin.proofs.laws.subst_takes_the_values.Goals as goal
 
 pub returns : goal.returns

@@ -1,4 +1,4 @@
-use Rattle.xan_lin.proofs.Values.{sum-value}
+use Rattle.xan_lin.proofs.ResultValues.{sum-value}
 use Rattle.xan_lin.proofs.laws.sum_adds_the_values.Goals as goal
 
 pub returns : goal.returns

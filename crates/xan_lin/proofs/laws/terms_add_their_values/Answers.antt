@@ -1,4 +1,4 @@
-use Rattle.xan_lin.proofs.Values.{terms-value}
+use Rattle.xan_lin.proofs.ResultValues.{terms-value}
 use Rattle.xan_lin.proofs.laws.terms_add_their_values.Goals as goal
 
 pub returns : goal.returns

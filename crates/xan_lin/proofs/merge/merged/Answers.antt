@@ -1,5 +1,5 @@
 use Rattle.std.proofs.Common.{◌∙◌, arith}
-use Rattle.xan_lin.proofs.Merging.{goes_right, goes_left, goes_both, ends_left, ends_right}
+use Rattle.xan_lin.proofs.MergedTerms.{goes_right, goes_left, goes_both, ends_left, ends_right}
 use Rattle.xan_lin.proofs.merge.merged.Goals as goal
 
 pub returns-in_default-later_right : goal.returns-in_default-later_right

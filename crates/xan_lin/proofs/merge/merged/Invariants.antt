@@ -1,6 +1,6 @@
 use Rattle.std.proofs.Common.{◌+◌, length}
 use Rattle.xan_lin.specs.Terms.{sum_terms}
-use Rattle.xan_lin.proofs.Merging.{Merging}
+use Rattle.xan_lin.proofs.MergedTerms.{Merging}
 use Rattle.xan_lin.proofs.merge.merged.Given as goal
 
 abbrev pub invariant-terms : goal.invariant-terms

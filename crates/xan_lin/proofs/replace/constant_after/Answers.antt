@@ -2,8 +2,8 @@ use Rattle.std.proofs.Common.{◌∙◌, ◌+ℤ◌, ◌*ℤ◌, ap, get_or, rul
 use Rattle.std.proofs.lemmas.Int.{to_z-of_z}
 use Rattle.xan_lin.specs.Terms.{no_term}
 use Rattle.xan_lin.specs.Wide.{whole}
-use Rattle.xan_lin.proofs.Evaluating.{one_more}
-use Rattle.xan_lin.proofs.Replacing.{adds_constant, constants_added}
+use Rattle.xan_lin.proofs.TermValues.{one_more}
+use Rattle.xan_lin.proofs.ReplacedTerms.{adds_constant, constants_added}
 use Rattle.xan_lin.proofs.replace.constant_after.Goals as goal
 
 pub loop-term-preserved : goal.loop-term-preserved

@@ -1,6 +1,6 @@
 use Rattle.std.proofs.Common.{◌∙◌, ap, rules, w64, FitsSigned}
 use Rattle.std.proofs.lemmas.Int.{to_z-of_z}
-use Rattle.xan_lin.proofs.Replacing.{replacement-listed, constant-unlisted}
+use Rattle.xan_lin.proofs.ReplacedTerms.{replacement-listed, constant-unlisted}
 use Rattle.xan_lin.proofs.replace.constant_of_variable.Goals as goal
 
 pub returns-in-Some : goal.returns-in-Some

@@ -2,7 +2,7 @@ use Rattle.std.proofs.Common.{◌++◌, sym, ◌∙◌, ap}
 use Rattle.std.proofs.lemmas.List.{append-nil}
 use Rattle.xan_lin.specs.Products.{product_terms}
 use Rattle.xan_lin.specs.Subst.{multiples}
-use Rattle.xan_lin.proofs.Replacing.{replacement-listed, replacement-kept, replacement-zero}
+use Rattle.xan_lin.proofs.ReplacedTerms.{replacement-listed, replacement-kept, replacement-zero}
 use Rattle.xan_lin.proofs.replace.push_replaced.Goals as goal
 
 pub returns-in-Some-clause-terms : goal.returns-in-Some-clause-terms

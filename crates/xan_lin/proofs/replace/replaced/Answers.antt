@@ -1,6 +1,6 @@
 use Rattle.std.proofs.Common.{arith}
 use Rattle.xan_lin.specs.Products.{product_terms}
-use Rattle.xan_lin.proofs.Replacing.{one_replaced, all_replaced}
+use Rattle.xan_lin.proofs.ReplacedTerms.{one_replaced, all_replaced}
 use Rattle.xan_lin.proofs.replace.replaced.Goals as goal
 
 pub loop-term-preserved : goal.loop-term-preserved

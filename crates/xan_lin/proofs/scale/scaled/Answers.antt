@@ -1,7 +1,7 @@
 use Rattle.std.proofs.Common.{◌++◌, [], ◌∙◌, ap, get_or, rules, w64, FitsSigned}
 use Rattle.std.proofs.lemmas.Int.{to_z-of_z}
 use Rattle.xan_lin.specs.Terms.{no_term, with_multiple}
-use Rattle.xan_lin.proofs.Scaling.{goes_as, fails, ends}
+use Rattle.xan_lin.proofs.ScaledTerms.{goes_as, fails, ends}
 use Rattle.xan_lin.proofs.scale.scaled.Goals as goal
 
 pub returns-in_default : goal.returns-in_default

@@ -1,4 +1,4 @@
-use Rattle.xan_lin.proofs.Scaling.{Scaling}
+use Rattle.xan_lin.proofs.ScaledTerms.{Scaling}
 use Rattle.xan_lin.proofs.scale.scaled.Given as goal
 
 abbrev pub invariant-loop-term : goal.invariant-loop-term

@@ -1,6 +1,6 @@
 use Rattle.std.proofs.Common.{◌-◌, ◌+◌, arith}
 use Rattle.std.proofs.lemmas.Result.{err_from_is_err_and}
-use Rattle.xan_read.proofs.Loops.{item_more, item_fails, item_none, item_full}
+use Rattle.xan_read.proofs.ListLoops.{item_more, item_fails, item_none, item_full}
 use Rattle.xan_read.proofs.lists.read_onto.Goals as goal
 
 pub returns-in-None : goal.returns-in-None

@@ -1,5 +1,5 @@
 use Rattle.std.proofs.Common.{◌+◌, ◌-◌, ◌*◌, sym, ◌∙◌, arith}
-use Rattle.xan_read.proofs.Ranges.{within_here, within_last, within_step, within_past}
+use Rattle.xan_read.proofs.DigitRanges.{within_here, within_last, within_step, within_past}
 use Rattle.xan_read.proofs.numbers.can_begin.Goals as goal
 
 pub returns-then-meets : goal.returns-then-meets

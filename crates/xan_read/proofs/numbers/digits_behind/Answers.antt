@@ -1,5 +1,5 @@
 use Rattle.std.proofs.Common.{sym, ◌∙◌}
-use Rattle.xan_read.proofs.Ranges.{digits_step}
+use Rattle.xan_read.proofs.DigitRanges.{digits_step}
 use Rattle.xan_read.proofs.numbers.digits_behind.Goals as goal
 
 pub digits-preserved : goal.digits-preserved

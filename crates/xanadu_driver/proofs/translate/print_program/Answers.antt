@@ -1,6 +1,6 @@
 use Rattle.std.proofs.Common.{length, ap, ◌∙◌}
 use Rattle.typed_core.specs.Proving.{ElaboratedParts}
-use Rattle.xanadu_driver.proofs.Whole.{lowered_spelled, text_is}
+use Rattle.xanadu_driver.proofs.SmallSources.{lowered_spelled, text_is}
 use Rattle.xanadu_driver.proofs.translate.print_program.Goals as goal
 
 pub print_straight-requires : goal.print_straight-requires

@@ -1,7 +1,7 @@
 use Rattle.std.proofs.Common.{◌∙◌, sym, refl, arith}
 use Rattle.std.proofs.lemmas.Grind.{common_steps}
 use Rattle.xanadu_lexer.specs.Lexing.{lexed}
-use Rattle.xanadu_lexer.proofs.Steps.{at_gap, at_token, at_fault, at_end, moves_over}
+use Rattle.xanadu_lexer.proofs.PieceSteps.{at_gap, at_token, at_fault, at_end, moves_over}
 use Rattle.xanadu_lexer.proofs.lexer.lex.Goals as goal
 use Rattle.xanadu_lexer.proofs.lexer.lex.Goals.{in-Gap, in-Whole+in_ok-add-in-Whole}
 

@@ -1,6 +1,6 @@
 use Rattle.std.proofs.Common.{◌≡◌, ◌+◌, length}
 use Rattle.xanadu_lexer.specs.Lexing.{lexed_from}
-use Rattle.xanadu_lexer.proofs.Steps.{after}
+use Rattle.xanadu_lexer.proofs.PieceSteps.{after}
 use Rattle.xanadu_lexer.proofs.lexer.lex.Given as goal
 
 abbrev pub invariant-loop-text : goal.invariant-loop-text

@@ -1,5 +1,5 @@
 use Rattle.std.proofs.Common.{arith}
-use Rattle.xanadu_lexer.proofs.Values.{value_from-passes}
+use Rattle.xanadu_lexer.proofs.DigitValues.{value_from-passes}
 use Rattle.xanadu_lexer.proofs.number.value_from.Goals as goal
 
 -- a number that has grown too great does not shrink

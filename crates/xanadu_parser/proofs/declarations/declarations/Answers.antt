@@ -1,7 +1,7 @@
 use Rattle.std.proofs.Common.{◌-◌, ◌+◌, arith}
 use Rattle.std.proofs.lemmas.Result.{err_from_is_err_and}
 use Rattle.xanadu_tree.specs.PlainTreeOf.{plain_declaration}
-use Rattle.xanadu_parser.proofs.Loops.{seen}
+use Rattle.xanadu_parser.proofs.TokenLists.{seen}
 use Rattle.xanadu_parser.proofs.Programs.{one_declaration, no_declaration, all_declared, none_left}
 use Rattle.xanadu_parser.proofs.declarations.declarations.Goals as goal
 

@@ -2,7 +2,7 @@ use Rattle.std.proofs.Common.{◌-◌, ◌+◌, refl, arith}
 use Rattle.std.proofs.lemmas.Result.{err_from_is_err_and}
 use Rattle.xanadu_parser.specs.Tables.{symbol_among, sign}
 use Rattle.xanadu_parser.specs.Index.{signed}
-use Rattle.xanadu_parser.proofs.Loops.{more, fails, ends, full, fails_then}
+use Rattle.xanadu_parser.proofs.TokenLists.{more, fails, ends, full, fails_then}
 use Rattle.xanadu_parser.proofs.index.terms.Goals as goal
 
 pub returns-in_default : goal.returns-in_default

@@ -1,4 +1,4 @@
-use Rattle.xanadu_parser.proofs.Meaning.{one_tree}
+use Rattle.xanadu_parser.proofs.ParsedPrograms.{one_tree}
 use Rattle.xanadu_parser.proofs.laws.tokens_spell_one_tree.Goals as goal
 
 pub returns : goal.returns

@@ -2,7 +2,7 @@ use Rattle.std.proofs.Common.{◌-◌, ◌+◌, arith}
 use Rattle.std.proofs.lemmas.Result.{err_from_is_err_and}
 use Rattle.xanadu_lexer.specs.declared.symbol.Symbol.TheVariants as symbol
 use Rattle.xanadu_parser.specs.Tables.{mark}
-use Rattle.xanadu_parser.proofs.Loops.{seen, more, fails, ends, full}
+use Rattle.xanadu_parser.proofs.TokenLists.{seen, more, fails, ends, full}
 use Rattle.xanadu_parser.proofs.lists.separated.Goals as goal
 
 pub returns-in_default : goal.returns-in_default

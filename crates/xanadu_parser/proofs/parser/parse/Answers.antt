@@ -1,5 +1,5 @@
 use Rattle.xanadu_tree.specs.PlainTreeOf.{plain_tree}
-use Rattle.xanadu_parser.proofs.Meaning.{meaning}
+use Rattle.xanadu_parser.proofs.ParsedPrograms.{meaning}
 use Rattle.xanadu_parser.proofs.parser.parse.Goals as goal
 
 pub returns : goal.returns

@@ -4,7 +4,7 @@ use Rattle.xanadu_lexer.specs.declared.symbol.Symbol.TheVariants as symbol
 use Rattle.xanadu_tree.specs.PlainTreeOf.{plain_statement}
 use Rattle.xanadu_parser.specs.Tables.{mark}
 use Rattle.xanadu_parser.specs.Statements as spec
-use Rattle.xanadu_parser.proofs.Loops.{seen, until_more, until_fails, until_ends, until_full}
+use Rattle.xanadu_parser.proofs.TokenLists.{seen, until_more, until_fails, until_ends, until_full}
 use Rattle.xanadu_parser.proofs.statements.+block.Goals as goal
 
 pub statements-returns-in-Some : goal.statements-returns-in-Some

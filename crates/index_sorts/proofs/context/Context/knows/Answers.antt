@@ -1,7 +1,7 @@
 use Rattle.std.proofs.Common.{◌∙◌, ◌||◌, ap}
 use Rattle.std.specs.List.{list_any}
 use Rattle.index_sorts.specs.Known.{same_form, holds_always}
-use Rattle.index_sorts.proofs.Knowing.{answers_known}
+use Rattle.index_sorts.proofs.KnownRows.{answers_known}
 use Rattle.index_sorts.proofs.context.Context.knows.Goals as goal
 
 pub returns : goal.returns

@@ -1,5 +1,5 @@
 use Rattle.std.proofs.Common.{◌∙◌}
-use Rattle.linear_solver.proofs.Placing.{begun_lies, begun_is}
+use Rattle.linear_solver.proofs.PlacedRows.{begun_lies, begun_is}
 use Rattle.linear_solver.proofs.Regions.{idle_is}
 use Rattle.linear_solver.proofs.workspace.Workspace.begin.Goals as goal
 

@@ -1,6 +1,6 @@
 use Rattle.std.proofs.Common.{get_or}
 use Rattle.linear_solver.specs.Region.{no_row}
-use Rattle.linear_solver.proofs.Fetching.{coefficient_in}
+use Rattle.linear_solver.proofs.WorkspaceReads.{coefficient_in}
 use Rattle.linear_solver.proofs.workspace.Workspace.coefficient.Goals as goal
 
 pub returns : goal.returns

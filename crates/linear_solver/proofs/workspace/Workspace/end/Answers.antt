@@ -1,6 +1,6 @@
 use Rattle.std.proofs.Common.{◌∙◌, length, arith}
 use Rattle.linear_solver.proofs.Stores.{in-bound}
-use Rattle.linear_solver.proofs.Placing.{empty_lies, empty_is}
+use Rattle.linear_solver.proofs.PlacedRows.{empty_lies, empty_is}
 use Rattle.linear_solver.proofs.workspace.Workspace.end.Goals as goal
 
 pub release-requires : goal.release-requires

@@ -1,5 +1,5 @@
 use Rattle.std.proofs.Common.{arith}
-use Rattle.linear_solver.proofs.Fetching.{is_place}
+use Rattle.linear_solver.proofs.WorkspaceReads.{is_place}
 use Rattle.linear_solver.proofs.workspace.Workspace.guessed.Goals as goal
 
 pub returns-then-is_at : goal.returns-then-is_at

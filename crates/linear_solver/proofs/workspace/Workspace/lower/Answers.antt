@@ -1,4 +1,4 @@
-use Rattle.linear_solver.proofs.Placing.{lowers, stays_low}
+use Rattle.linear_solver.proofs.PlacedRows.{lowers, stays_low}
 use Rattle.linear_solver.proofs.workspace.Workspace.lower.Goals as goal
 
 pub returns-then-is_more_than : goal.returns-then-is_more_than

@@ -1,4 +1,4 @@
-use Rattle.linear_solver.proofs.Placing.{empty_lies, empty_is}
+use Rattle.linear_solver.proofs.PlacedRows.{empty_lies, empty_is}
 use Rattle.linear_solver.proofs.workspace.Workspace.new.Goals as goal
 
 pub invariant_of-result : goal.invariant_of-result

@@ -1,5 +1,5 @@
 use Rattle.std.proofs.Common.{arith}
-use Rattle.linear_solver.proofs.Fetching.{is_place, not_here, not_anywhere}
+use Rattle.linear_solver.proofs.WorkspaceReads.{is_place, not_here, not_anywhere}
 use Rattle.linear_solver.proofs.workspace.Workspace.place_of.Goals as goal
 
 pub returns-then-is_at : goal.returns-then-is_at

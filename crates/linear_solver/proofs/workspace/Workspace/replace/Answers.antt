@@ -1,8 +1,9 @@
-use Rattle.std.proofs.Common.{refl, ◌∙◌, ◌<◌, ap, set, length, arith}
-use Rattle.linear_solver.specs.Region.{Work, row_in}
+use Rattle.std.proofs.Common.{refl, sym, subst, ◌∙◌, ◌<◌, ap, set, length, arith}
+use Rattle.linear_solver.specs.declared.side.Side.{Side}
+use Rattle.linear_solver.specs.Region.{Work, row_in, IsSigned}
 use Rattle.linear_solver.proofs.Stores.{there_too}
 use Rattle.linear_solver.proofs.Regions.{count_made, Replaced}
-use Rattle.linear_solver.proofs.Placing.{set_work}
+use Rattle.linear_solver.proofs.PlacedRows.{set_work}
 use Rattle.linear_solver.proofs.workspace.Workspace.replace.Goals as goal
 
 pub index-requires : goal.index-requires
@@ -22,7 +23,8 @@ invariant_of-self c =
       at = there_too c.self.inside.made.items c.args.place _ c.index.result.now c.stored.result live c.index.ensures c.stored.ensures.place;
       after_is = refl;
     } in
-    let q = set_work _ _ _ _ _ _ _ _ _ c.args.self.now p c.self.view_is c.requires.same c.requires.settled in
+    let q = set_work _ _ _ _ _ _ _ _ _ c.args.self.now p c.self.view_is c.requires.same c.requires.settled
+    (subst (λ (s : Side). IsSigned c.args.self.now.vars c.args.row.now.cells.items s) (sym c.stored.ensures.side) c.requires.signed) in
     record {
       lies = q.0;
       room_rows = c.self.invariant.room_rows;
@@ -40,5 +42,6 @@ returns c =
       at = there_too c.self.inside.made.items c.args.place _ c.index.result.now c.stored.result live c.index.ensures c.stored.ensures.place;
       after_is = refl;
     } in
-    let q = set_work _ _ _ _ _ _ _ _ _ c.args.self.now p c.self.view_is c.requires.same c.requires.settled in
+    let q = set_work _ _ _ _ _ _ _ _ _ c.args.self.now p c.self.view_is c.requires.same c.requires.settled
+    (subst (λ (s : Side). IsSigned c.args.self.now.vars c.args.row.now.cells.items s) (sym c.stored.ensures.side) c.requires.signed) in
     q.1 ∙ ap (λ s. let w : Work = record c.args.self.now { made = set c.args.self.now.made c.args.place (row_in c.args.self.now.vars c.args.row.now.cells.items s) } in w) c.stored.ensures.side

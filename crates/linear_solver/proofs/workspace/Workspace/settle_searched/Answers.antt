@@ -1,5 +1,5 @@
 use Rattle.std.proofs.Common.{◌∙◌, sym, refl}
-use Rattle.linear_solver.proofs.Fetching.{put_settled, set_settled}
+use Rattle.linear_solver.proofs.WorkspaceReads.{put_settled, set_settled}
 use Rattle.linear_solver.proofs.workspace.Workspace.settle_searched.Goals as goal
 
 pub returns-in-Some : goal.returns-in-Some

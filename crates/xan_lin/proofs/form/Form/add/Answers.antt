@@ -1,5 +1,5 @@
 use Rattle.std.proofs.Common.{◌∙◌}
-use Rattle.xan_lin.proofs.Sums.{rises_as, IsRising-sum}
+use Rattle.xan_lin.proofs.TermSums.{rises_as, IsRising-sum}
 use Rattle.xan_lin.proofs.form.Form.add.Goals as goal
 
 pub sized_form-requires : goal.sized_form-requires

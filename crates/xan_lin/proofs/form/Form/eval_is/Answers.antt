@@ -2,7 +2,7 @@ use Rattle.std.proofs.Common.{◌∙◌, ◌-ℤ◌, ◌+ℤ◌, ap, w64}
 use Rattle.std.proofs.lemmas.Int.{to_z-of_z}
 use Rattle.xan_lin.specs.Value.{value_of, value_of_terms}
 use Rattle.xan_lin.specs.Wide.{whole}
-use Rattle.xan_lin.proofs.Evaluating.{is_the_word}
+use Rattle.xan_lin.proofs.TermValues.{is_the_word}
 use Rattle.xan_lin.proofs.form.Form.eval_is.Goals as goal
 
 pub returns : goal.returns

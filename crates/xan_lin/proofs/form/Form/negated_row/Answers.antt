@@ -1,6 +1,6 @@
 use Rattle.std.proofs.Common.{◌∙◌, arith}
-use Rattle.xan_lin.proofs.Sums.{rises_as, IsRising-negated}
-use Rattle.xan_lin.proofs.Sizes.{few_errors}
+use Rattle.xan_lin.proofs.TermSums.{rises_as, IsRising-negated}
+use Rattle.xan_lin.proofs.FormSizes.{few_errors}
 use Rattle.xan_lin.proofs.form.Form.negated_row.Goals as goal
 
 pub sized_form-requires : goal.sized_form-requires

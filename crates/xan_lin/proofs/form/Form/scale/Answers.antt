@@ -2,7 +2,7 @@ use Rattle.std.proofs.Common.{◌≡◌, ◌*ℤ◌, sym, ◌∙◌, ap, rules, 
 use Rattle.std.proofs.lemmas.Int.{to_z-of_z}
 use Rattle.xan_lin.specs.Terms.{scaled_terms}
 use Rattle.xan_lin.specs.Linear.{Linear, is_within, all_within, product_of}
-use Rattle.xan_lin.proofs.Scaling.{constant_large, terms_large, product_fits, product-form}
+use Rattle.xan_lin.proofs.ScaledTerms.{constant_large, terms_large, product_fits, product-form}
 use Rattle.xan_lin.proofs.form.Form.scale.Goals as goal
 
 pub returns-in_default : goal.returns-in_default

@@ -1,6 +1,6 @@
 use Rattle.std.proofs.Common.{◌∙◌, ap}
 use Rattle.xan_lin.specs.Linear.{all_within}
-use Rattle.xan_lin.proofs.Sums.{rises_as, IsRising-sum, IsRising-negated, all_within-negated}
+use Rattle.xan_lin.proofs.TermSums.{rises_as, IsRising-sum, IsRising-negated, all_within-negated}
 use Rattle.xan_lin.proofs.form.Form.sub.Goals as goal
 
 pub merged-terms-requires-clause-right_rises : goal.merged-terms-requires-clause-right_rises

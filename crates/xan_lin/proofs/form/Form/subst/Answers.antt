@@ -4,7 +4,7 @@ use Rattle.xan_lin.specs.Linear.{sized, form_of}
 use Rattle.xan_lin.specs.Products.{product_terms}
 use Rattle.xan_lin.specs.Subst.{replaced_terms, replaced_constant, subst_of}
 use Rattle.xan_lin.specs.Wide.{whole}
-use Rattle.xan_lin.proofs.Collecting.{sized-cut_constant}
+use Rattle.xan_lin.proofs.CollectedTerms.{sized-cut_constant}
 use Rattle.xan_lin.proofs.form.Form.subst.Goals as goal
 
 pub returns : goal.returns

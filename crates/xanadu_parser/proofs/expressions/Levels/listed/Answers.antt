@@ -4,7 +4,7 @@ use Rattle.xanadu_lexer.specs.declared.symbol.Symbol.TheVariants as symbol
 use Rattle.xanadu_parser.specs.Tables.{mark}
 use Rattle.xanadu_parser.specs.Expressions as spec
 use Rattle.xanadu_tree.specs.PlainTreeOf.{plain_expression}
-use Rattle.xanadu_parser.proofs.Loops.{seen, more, fails, ends, full}
+use Rattle.xanadu_parser.proofs.TokenLists.{seen, more, fails, ends, full}
 use Rattle.xanadu_parser.proofs.expressions.Levels.listed.Goals as goal
 
 pub returns-in_default : goal.returns-in_default

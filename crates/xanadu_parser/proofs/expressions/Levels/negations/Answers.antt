@@ -4,7 +4,7 @@ use Rattle.xanadu_lexer.specs.declared.symbol.Symbol.TheVariants as symbol
 use Rattle.xanadu_parser.specs.Tables.{mark}
 use Rattle.xanadu_parser.specs.Views.{behind_and}
 use Rattle.xanadu_parser.specs.Expressions as spec
-use Rattle.xanadu_parser.proofs.Loops.{seen, more, fails, ends, full, fails_then}
+use Rattle.xanadu_parser.proofs.TokenLists.{seen, more, fails, ends, full, fails_then}
 use Rattle.xanadu_parser.proofs.expressions.Levels.negations.Goals as goal
 
 pub returns-in_default : goal.returns-in_default

@@ -3,7 +3,7 @@ use Rattle.std.proofs.lemmas.Result.{err_from_is_err_and}
 use Rattle.xanadu_parser.specs.Tables.{symbol_among, sum_operator}
 use Rattle.xanadu_parser.specs.Views.{behind_sign}
 use Rattle.xanadu_parser.specs.Expressions as spec
-use Rattle.xanadu_parser.proofs.Loops.{seen, more, fails, ends, full, fails_then}
+use Rattle.xanadu_parser.proofs.TokenLists.{seen, more, fails, ends, full, fails_then}
 use Rattle.xanadu_parser.proofs.expressions.Levels.products.Goals as goal
 
 pub returns-in_default : goal.returns-in_default

@@ -1,5 +1,5 @@
 use Rattle.xanadu_tree.specs.Printing.{declarations_text}
-use Rattle.xanadu_tree.proofs.Loops.{turn, over}
+use Rattle.xanadu_tree.proofs.PrintedLists.{turn, over}
 use Rattle.xanadu_tree.proofs.StatementTexts.{declarations_text-nil, declarations_text-cons}
 use Rattle.xanadu_tree.proofs.print.declaration.put_declarations.Goals as goal
 

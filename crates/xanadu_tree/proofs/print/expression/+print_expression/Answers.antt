@@ -1,7 +1,7 @@
 use Rattle.std.proofs.Common.{false, arith}
 use Rattle.std.proofs.lemmas.Grind.{common_steps}
 use Rattle.xanadu_tree.specs.Printing.{conjunctions_text, negations_text, addends_text, factors_text, indices_text, arguments_from}
-use Rattle.xanadu_tree.proofs.Loops.{turn_of_two, turn_of_three, over, arguments_from-nil, arguments_from-cons}
+use Rattle.xanadu_tree.proofs.PrintedLists.{turn_of_two, turn_of_three, over, arguments_from-nil, arguments_from-cons}
 use Rattle.xanadu_tree.proofs.Texts.{expression_texts, conjunctions_text-cons, negations_text-cons, addends_text-cons, factors_text-cons, indices_text-cons}
 use Rattle.xanadu_tree.proofs.print.expression.+print_expression.Goals as goal
 

@@ -1,5 +1,5 @@
 use Rattle.xanadu_tree.specs.Printing.{signed_text}
-use Rattle.xanadu_tree.proofs.Loops.{turn_of_two, over}
+use Rattle.xanadu_tree.proofs.PrintedLists.{turn_of_two, over}
 use Rattle.xanadu_tree.proofs.TypeTexts.{signed_text-nil, signed_text-cons}
 use Rattle.xanadu_tree.proofs.print.index.put_signed.Goals as goal
 

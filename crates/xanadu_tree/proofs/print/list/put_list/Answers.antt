@@ -1,6 +1,6 @@
 use Rattle.std.proofs.Common.{◌++◌, false, refl, ap}
 use Rattle.xanadu_tree.specs.Printing.{listed_from}
-use Rattle.xanadu_tree.proofs.Loops.{turn_of_two, over, listed-from}
+use Rattle.xanadu_tree.proofs.PrintedLists.{turn_of_two, over, listed-from}
 use Rattle.xanadu_tree.proofs.print.list.put_list.Goals as goal
 
 pub loop-part-init : goal.loop-part-init

@@ -1,5 +1,5 @@
 use Rattle.xanadu_tree.specs.Printing.{statements_text}
-use Rattle.xanadu_tree.proofs.Loops.{turn, over}
+use Rattle.xanadu_tree.proofs.PrintedLists.{turn, over}
 use Rattle.xanadu_tree.proofs.StatementTexts.{statements_text-nil, statements_text-cons}
 use Rattle.xanadu_tree.proofs.print.statement.+print_statement.Goals as goal
 

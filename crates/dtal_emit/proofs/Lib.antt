@@ -1,0 +1,4 @@
+pub mod EmittedSums
+pub mod CodePieces
+pub mod WordMoves
+pub mod TableTypes

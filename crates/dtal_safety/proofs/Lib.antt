@@ -1,0 +1,22 @@
+pub mod Lookups
+pub mod CodeFound
+pub mod StatesFound
+pub mod NamedParts
+pub mod ProperStates
+pub mod InstructionParts
+pub mod PlainEffects
+pub mod TouchedCells
+pub mod LinesHold
+pub mod PlacesHold
+pub mod LocatedStates
+pub mod VerdictKinds
+pub mod OperationsReady
+pub mod FunctionsBegin
+pub mod StandsOn
+pub mod StepsFit
+pub mod StepsTaken
+pub mod SafeRuns
+pub mod FirstStates
+pub mod AcceptedRuns
+mod SafeArraySum
+pub mod EdgesHold

@@ -1,0 +1,15 @@
+pub mod KeptHeap
+pub mod ActingForms
+pub mod PlacesHeld
+pub mod KindsOfInstructions
+pub mod StretchesStand
+pub mod RunsBeside
+pub mod PoisedStates
+pub mod StepsBeside
+pub mod EnteredFunctions
+pub mod ProgramsFollow
+pub mod SlotsApart
+pub mod EmittedGrammar
+pub mod LabelHomes
+pub mod EmittedPrograms
+pub mod FollowedIdentity

@@ -1,0 +1,3 @@
+pub mod ApartHomes
+pub mod FollowedRuns
+pub mod EmittedRanges

@@ -1,0 +1,12 @@
+pub mod Stacks
+pub mod WrittenCells
+pub mod Unset
+pub mod Counts
+pub mod Firsts
+pub mod Unwinding
+pub mod ActMeanings
+pub mod StepMeanings
+pub mod PlacesSame
+pub mod StatementMeanings
+pub mod CallMeanings
+pub mod WorkSizes
