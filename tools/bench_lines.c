@@ -48,7 +48,8 @@ static int check(int64_t *rows, uint32_t lines, int cuts, int64_t by) {
 int main(int argc, char **argv) {
     if (argc != 4) return 2;
     uint32_t lines = (uint32_t)strtoul(argv[2], 0, 10), times = (uint32_t)strtoul(argv[3], 0, 10), accepted = 0;
-    int64_t by = argc - 3, *rows = malloc((size_t)lines * WIDTH * sizeof *rows);
+    volatile int64_t divisor = 1; /* else the compiler sees that it is 1, and divides nothing */
+    int64_t by = divisor, *rows = malloc((size_t)lines * WIDTH * sizeof *rows);
     if (!rows) return 6;
     for (uint32_t i = 0; i < times; i++) accepted += (uint32_t)check(rows, lines, strcmp(argv[1], "cuts") == 0, by);
     printf("%u lines accepted %u times\n", lines, accepted);
