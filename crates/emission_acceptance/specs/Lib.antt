@@ -1,0 +1,5 @@
+pub mod TypesThrough
+pub mod LabelsApart
+pub mod WellHeaded
+pub mod Acceptable
+pub mod ReadyCode
