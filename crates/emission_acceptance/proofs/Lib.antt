@@ -18,3 +18,4 @@ pub mod TypedStretches
 pub mod SlotsTyped
 pub mod RulesFew
 pub mod CodeReady
+pub mod AcceptedIdentity
