@@ -18,7 +18,7 @@ use Rattle.dtal_code.specs.Spelling.{has_edge}
 use Rattle.dtal_emit.specs.Acting.{nth, type_of, takes_places, acting}
 use Rattle.dtal_emit.specs.Homes.{home_of, homes_of, is_slot, alone, moved_if, scratch_behind, loads, registers, results, stores, entry_move, entry_moves}
 use Rattle.dtal_emit.specs.Emitted.{rank, count_before, inserted, ordered_from, ordered, with_edge, by_kind, with_parts, emitted_instr, emitted_all}
-use Rattle.emission_laws.specs.ApartHomes.{IsHome}
+use Rattle.emission_laws.specs.ApartHomes.{IsHome, names_type}
 use Rattle.emission_laws.specs.EmittedRanges.{Each, goes_to_label, IsRangedInstr, AreRanged, ends_block, IsEnd, EndsLow}
 use Rattle.emission_laws.proofs.ActingForms.{are_few, fixed_counted}
 use Rattle.emission_laws.proofs.PoisedStates.{length_map}
@@ -61,40 +61,44 @@ nth_in bound h (x ∷ xs) e (suc k) = nth_in bound h xs e.1 k
 
 -- ---- the instruction that acts
 
-module _ (number : ℤ) (target : ℕ) (ws rs : List ℕ) (fits : FitsSigned w64 number) (numbered : IsNumber target) (typed : IsTypeNumber (type_of number)) where
-  in_registers : (o : Op22) → takes_places o ≡ false → Each (λ x. x < 16) ws → Each (λ x. x < 16) rs → IsOpIn (acting o number target ws rs)
-  in_registers o t w r = by_op o t (nth_in 16 (omega arith) ws w) (nth_in 16 (omega arith) rs r)
+module _ (number : ℤ) (target : ℕ) (ws rs : List ℕ) (fits : FitsSigned w64 number) (numbered : IsNumber target) where
+  -- the number, where it is a type's
+  abbrev IsTyped : Op22 → Type 0
+  IsTyped o = names_type o ≡ true → IsTypeNumber (type_of number)
+
+  in_registers : (o : Op22) → takes_places o ≡ false → IsTyped o → Each (λ x. x < 16) ws → Each (λ x. x < 16) rs → IsOpIn (acting o number target ws rs)
+  in_registers o t typed w r = by_op o t typed (nth_in 16 (omega arith) ws w) (nth_in 16 (omega arith) rs r)
     where
-      by_op : (o : Op22) → takes_places o ≡ false → ((k : ℕ) → nth ws k < 16) → ((k : ℕ) → nth rs k < 16) → IsOpIn (acting o number target ws rs)
-      by_op low.Li t w r = (w 0, fits)
-      by_op low.Lb t w r = w 0
-      by_op low.Add t w r = (w 0, r 0, r 1)
-      by_op low.Sub t w r = (w 0, r 0, r 1)
-      by_op low.Mul t w r = (w 0, r 0, r 1)
-      by_op low.Div t w r = (w 0, r 0, r 1)
-      by_op low.Mod t w r = (w 0, r 0, r 1)
-      by_op low.Set t w r = (w 0, r 0, r 1)
-      by_op low.Br t w r = (r 0, r 1, numbered)
-      by_op low.Bt t w r = (r 0, numbered)
-      by_op low.Bf t w r = (r 0, numbered)
-      by_op low.Jmp t w r = numbered
-      by_op low.Len t w r = (w 0, r 0)
-      by_op low.Ld t w r = (w 0, r 0, r 1)
-      by_op low.St t w r = (r 0, r 1, r 2)
-      by_op low.New t w r = (w 0, typed, r 0, r 1)
-      by_op low.Print t w r = r 0
-      by_op _ t w r = absurd (let bad : ⊥ = cc in bad)
+      by_op : (o : Op22) → takes_places o ≡ false → IsTyped o → ((k : ℕ) → nth ws k < 16) → ((k : ℕ) → nth rs k < 16) → IsOpIn (acting o number target ws rs)
+      by_op low.Li t typed w r = (w 0, fits)
+      by_op low.Lb t typed w r = w 0
+      by_op low.Add t typed w r = (w 0, r 0, r 1)
+      by_op low.Sub t typed w r = (w 0, r 0, r 1)
+      by_op low.Mul t typed w r = (w 0, r 0, r 1)
+      by_op low.Div t typed w r = (w 0, r 0, r 1)
+      by_op low.Mod t typed w r = (w 0, r 0, r 1)
+      by_op low.Set t typed w r = (w 0, r 0, r 1)
+      by_op low.Br t typed w r = (r 0, r 1, numbered)
+      by_op low.Bt t typed w r = (r 0, numbered)
+      by_op low.Bf t typed w r = (r 0, numbered)
+      by_op low.Jmp t typed w r = numbered
+      by_op low.Len t typed w r = (w 0, r 0)
+      by_op low.Ld t typed w r = (w 0, r 0, r 1)
+      by_op low.St t typed w r = (r 0, r 1, r 2)
+      by_op low.New t typed w r = (w 0, typed refl, r 0, r 1)
+      by_op low.Print t typed w r = r 0
+      by_op _ t typed w r = absurd (let bad : ⊥ = cc in bad)
 
   listed : (places : List ℕ) → length places ≤ 8 → Each (λ x. x < 256) places → IsListed places
   listed places few e = record { few = few; are = each_all (λ x. x < 256) places e }
 
-  in_places : (o : Op22) → takes_places o ≡ true → length ws ≤ 8 → length rs ≤ 8 → Each (λ x. x < 256) ws → Each (λ x. x < 256) rs → IsOpIn (acting o number target ws rs)
-  in_places low.Mv t fw fr w r = (nth_in 256 (omega arith) ws w 0, nth_in 256 (omega arith) rs r 0)
-  in_places low.Call t fw fr w r = (numbered, nth_in 256 (omega arith) ws w 0, listed rs fr r)
-  in_places low.Ret t fw fr w r = nth_in 256 (omega arith) rs r 0
-  in_places low.Tup t fw fr w r = (nth_in 256 (omega arith) ws w 0, typed, listed rs fr r)
-  in_places low.Untup t fw fr w r = (typed, nth_in 256 (omega arith) rs r 0, listed ws fw w)
-  in_places _ t fw fr w r = absurd (let bad : ⊥ = cc in bad)
+  in_places : (o : Op22) → takes_places o ≡ true → IsTyped o → length ws ≤ 8 → length rs ≤ 8 → Each (λ x. x < 256) ws → Each (λ x. x < 256) rs → IsOpIn (acting o number target ws rs)
+  in_places low.Mv t typed fw fr w r = (nth_in 256 (omega arith) ws w 0, nth_in 256 (omega arith) rs r 0)
+  in_places low.Call t typed fw fr w r = (numbered, nth_in 256 (omega arith) ws w 0, listed rs fr r)
+  in_places low.Ret t typed fw fr w r = nth_in 256 (omega arith) rs r 0
+  in_places low.Tup t typed fw fr w r = (nth_in 256 (omega arith) ws w 0, typed refl, listed rs fr r)
+  in_places low.Untup t typed fw fr w r = (typed refl, nth_in 256 (omega arith) rs r 0, listed ws fw w)
+  in_places _ t typed fw fr w r = absurd (let bad : ⊥ = cc in bad)
 
   same_way : (o : Op22) → has_edge (acting o number target ws rs) ≡ goes_to_label o
   same_way low.Br = refl
@@ -170,7 +174,7 @@ module _ (homes : List ℕ) (homes_are : (place : ℕ) → IsHome (home_of homes
   with_edge_in : (i : LowInstr) (edge : Edge) (ws rs : List ℕ) → IsRangedInstr i edge → IsOpIn (acting i.op i.number i.target ws rs) → IsInstr (with_edge homes i edge ws rs)
   with_edge_in i edge ws rs ranged acts = record {
     op = acts;
-    way = subst (λ b. IsWay b edge.values) (sym (same_way i.number i.target ws rs ranged.number ranged.target ranged.type i.op)) ranged.way;
+    way = subst (λ b. IsWay b edge.values) (sym (same_way i.number i.target ws rs ranged.number ranged.target i.op)) ranged.way;
     by = each_all AreLinesIn (ordered homes edge.by) (each_ordered homes edge.by [] [] ranged.by tt);
   }
 
@@ -183,7 +187,7 @@ module _ (homes : List ℕ) (homes_are : (place : ℕ) → IsHome (home_of homes
       let fw : length ws ≤ 8 = (let l = length_map (home_of homes) (take 8 parts.0) in let f = few_taken 8 parts.0 in omega (arith, l, f)) in
       let fr : length rs ≤ 8 = (let l = length_map (home_of homes) (take 8 parts.1) in let f = few_taken 8 parts.1 in omega (arith, l, f)) in (
         with_edge_in i edge ws rs ranged
-            (in_places i.number i.target ws rs ranged.number ranged.target ranged.type i.op t fw fr (within_all ws (homes_in (take 8 parts.0))) (within_all rs (homes_in (take 8 parts.1)))),
+            (in_places i.number i.target ws rs ranged.number ranged.target i.op t ranged.type fw fr (within_all ws (homes_in (take 8 parts.0))) (within_all rs (homes_in (take 8 parts.1)))),
         tt,
       )
   kind_in false i edge parts t e ranged =
@@ -194,7 +198,7 @@ module _ (homes : List ℕ) (homes_are : (place : ℕ) → IsHome (home_of homes
       let fr : length rs ≤ 3 = (let l = length_map (home_of homes) (take 8 parts.1) in let f = taken_less 8 3 parts.1 read in omega (arith, l, f)) in
       each_append IsInstr (loads 13 rs) _ (loads_in rs 13 (homes_in (take 8 parts.1)) (omega (arith, fr))) (
         with_edge_in i edge (results ws) (registers 13 rs) ranged
-            (in_registers i.number i.target (results ws) (registers 13 rs) ranged.number ranged.target ranged.type i.op t (results_in ws) (registers_in rs 13 (omega (arith, fr)))),
+            (in_registers i.number i.target (results ws) (registers 13 rs) ranged.number ranged.target i.op t ranged.type (results_in ws) (registers_in rs 13 (omega (arith, fr)))),
         stores_in ws (homes_in (take 8 parts.0)),
       )
 

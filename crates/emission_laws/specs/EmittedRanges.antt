@@ -19,7 +19,7 @@ use Rattle.dtal_code.specs.declared.limits.TheConstants.{LAST_NUMBER, MOST_TYPES
 use Rattle.dtal_emit.specs.Acting.{type_of}
 use Rattle.dtal_emit.specs.Emitted.{fewer, emitted_all}
 use Rattle.dtal_emit.specs.Homes.{home_of, entry_moves}
-use Rattle.emission_laws.specs.ApartHomes.{IsHome}
+use Rattle.emission_laws.specs.ApartHomes.{IsHome, names_type}
 
 -- each element, one after the other
 abbrev pub Each : {A : Type 0} → (A → Type 0) → List A → Type 0
@@ -33,11 +33,11 @@ goes_to_label low.Bf = true
 goes_to_label low.Jmp = true
 goes_to_label _ = false
 
--- numbers are in the ranges of the text, and values stand where a label is gone to
+-- numbers are in the ranges of the text, one that is a type's too, and values stand where a label is gone to
 pub record IsRangedInstr (instr : LowInstr) (edge : Edge) : Type 0 where
   pub number : FitsSigned w64 instr.number
   pub target : IsNumber instr.target
-  pub type : IsTypeNumber (type_of instr.number)
+  pub type : names_type instr.op ≡ true → IsTypeNumber (type_of instr.number)
   pub way : IsWay (goes_to_label instr.op) edge.values
   pub by : Each (λ (b : ProvedRow). AreLinesIn b.lines) edge.by
 
