@@ -248,7 +248,7 @@ is_ranged = record {
       name = refl;
       sig = sig_in;
       homes_are = (slots_apart same_fun (16 ∷ []) one_slot reads_small).homes_are;
-      instrs = (record { number = search rules; target = lit≤ tt; type = lit≤ tt; way = refl; by = tt }, tt);
+      instrs = (record { number = search rules; target = lit≤ tt; type = λ e. lit≤ tt; way = refl; by = tt }, tt);
       edge_each = refl;
       states = tt;
       label_each = refl;
