@@ -1,0 +1,9 @@
+pub mod SlotsAcceptable
+pub mod TypesDeclared
+pub mod HeadersDeclared
+pub mod LoweredHeaded
+pub mod LoweredBlocks
+pub mod LoweredShort
+pub mod SlottedAccepted
+pub mod HeadersTexts
+pub mod LoweredTexts

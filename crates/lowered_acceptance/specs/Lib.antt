@@ -1,0 +1,3 @@
+pub mod FormedCode
+pub mod SlottedCode
+pub mod TextedHeaders
