@@ -1,11 +1,6 @@
 -- Variables that are alone, one after the other; and when a form is a variable.
-use Rattle.std.proofs.Common.{◌≡◌, ℕ, zero, suc, ◌+◌, ◌-◌, ◌<◌, pos, List, [], ◌∷◌, Bool as Truth, true, false, refl, ap, arith}
-use Rattle.std.specs.Prelude.{◌&&◌}
+use Rattle.std.proofs.Common.{◌≡◌, ℕ, zero, suc, ◌+◌, ◌-◌, ◌<◌, List, Bool as Truth, true, false, refl, arith}
 use Rattle.std.specs.List.{list_any}
-use Rattle.std.specs.Ordering.{int_eq}
-use Rattle.index_sorts.specs.Known.{same_form, same_term}
-use Rattle.xan_lin.specs.Linear.{Linear, variable_form}
-use Rattle.xan_lin.specs.declared.term.Term.{Term}
 use Rattle.state_types.specs.Matching.{is_alone}
 use Rattle.state_types.specs.Types.{index_of}
 use Rattle.state_types.specs.declared.types.Ty.{Ty}

@@ -1,12 +1,11 @@
 -- Types and signatures that pass name only their own variables, which are few; and so does what labels and functions begin with.
-use Rattle.std.proofs.Common.{◌≡◌, ◌∙◌, ℕ, zero, suc, ◌+◌, ◌≤◌, ◌<◌, List, [], ◌∷◌, ◌++◌, length, map, nat_lt, Bool as Truth, true, false, Result, Ok, Err, refl, sym, ap, subst, arith}
+use Rattle.std.proofs.Common.{◌≡◌, ℕ, suc, ◌+◌, ◌≤◌, ◌<◌, List, [], ◌∷◌, ◌++◌, length, map, nat_lt, Bool as Truth, true, false, Ok, Err, refl, sym, subst, arith}
 use Rattle.std.specs.Prelude.{◌&&◌, nat_le, not, bytes_eq}
 use Rattle.std.specs.List.{All, list_all, list_any}
 use Rattle.std.proofs.lemmas.Bool.{ltb-true, leb-true}
 use Rattle.std.proofs.lemmas.List.Elements.{All-nil, All-cons, All-head, All-tail}
 use Rattle.xan_lin.specs.Linear.{Linear, NamesBelow, variable_form}
 use Rattle.xan_lin.proofs.Booleans.{both}
-use Rattle.state_types.specs.Answers.{◌>>=◌}
 use Rattle.state_types.specs.PlaceTypes.{PlacesRise}
 use Rattle.state_types.specs.Tables.{IsClosed, int_cell, bool_cell}
 use Rattle.state_types.specs.Types.{TypeBelow}
@@ -20,7 +19,7 @@ use Rattle.operation_rules.specs.Settings.{HasFew, IsFew}
 use Rattle.operation_rules.specs.Sound.{IsHeader, IsSetting}
 use Rattle.dtal_code.specs.Declarations.{types_exist, are_alone, form_is_below, rows_are_below, type_is_below, types_are_below, typed_types, are_few, packed_verdict, names_own, signature_verdict, numbered}
 use Rattle.dtal_code.specs.Refusing.{types_walked, signatures_walked}
-use Rattle.dtal_code.specs.Verdicts.{Verdict, Walk, asks, at_place}
+use Rattle.dtal_code.specs.Verdicts.{Verdict, asks, at_place}
 use Rattle.dtal_code.specs.declared.program.DtalProgram.{DtalProgram}
 use Rattle.dtal_code.specs.declared.program.Function.{Function}
 use Rattle.dtal_code.specs.declared.refusal.Rule.{Rule}

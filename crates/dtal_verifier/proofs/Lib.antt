@@ -1,5 +1,6 @@
 pub mod VerdictParts
 pub mod AloneTurns
+pub mod AddedNames
 pub mod SignaturesTurns
 pub mod StepsSame
 pub mod WalksSame

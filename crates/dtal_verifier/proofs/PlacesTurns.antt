@@ -1,5 +1,5 @@
 -- Places that are read, one after the other.
-use Rattle.std.proofs.Common.{◌≡◌, ◌∙◌, ℕ, List, [], ◌∷◌, ◌++◌, map, take, drop, length, get_or, suc, ◌-◌, ◌≤◌, arith, Option, Some, None, Ok, Err, refl, sym, ap}
+use Rattle.std.proofs.Common.{◌≡◌, ℕ, List, [], ◌∷◌, ◌++◌, map, take, drop, length, get_or, suc, ◌-◌, ◌≤◌, arith, Some, Ok, sym}
 use Rattle.std.proofs.lemmas.List.{take_all}
 use Rattle.state_types.specs.PlaceTypes.{type_at}
 use Rattle.state_types.specs.declared.types.Ty.{Ty}

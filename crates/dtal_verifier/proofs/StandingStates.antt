@@ -1,8 +1,7 @@
 -- The state behind an instruction stands as the state before it did: the types of places name variables that are there.
-use Rattle.std.proofs.Common.{◌≡◌, ◌∙◌, ℕ, ◌+◌, ◌≤◌, ◌==◌, List, [], ◌∷◌, length, map, nat_lt, Bool as Truth, true, false, cond, Option, Some, None, Result, Ok, Err, refl, sym, ap, subst, arith}
+use Rattle.std.proofs.Common.{◌≡◌, ◌∙◌, ℕ, ◌+◌, ◌≤◌, ◌==◌, List, [], ◌∷◌, length, map, nat_lt, Bool as Truth, true, false, cond, Some, Result, Ok, Err, refl, sym, ap, subst, arith}
 use Rattle.std.specs.Prelude.{nat_le, IfOk}
 use Rattle.std.specs.List.{All}
-use Rattle.std.proofs.lemmas.Bool.{lt-ltb}
 use Rattle.std.proofs.lemmas.List.Elements.{All-nil, All-cons, All-head, All-tail}
 use Rattle.index_sorts.specs.Context.{IndexContext, with_variables}
 use Rattle.index_sorts.specs.Known.{knows, with_row}
@@ -11,7 +10,6 @@ use Rattle.index_sorts.specs.declared.error.ContextError.TheVariants as context_
 use Rattle.xan_lin.specs.Linear.{Linear}
 use Rattle.xan_lin.specs.declared.term.TooLarge.{TooLarge}
 use Rattle.proof_lines.specs.declared.line.Line.{Line}
-use Rattle.state_types.specs.Answers.{◌>>=◌}
 use Rattle.state_types.specs.PlaceTypes.{type_at, with_type}
 use Rattle.state_types.specs.Tables.{IsClosed}
 use Rattle.state_types.specs.Types.{TypeBelow}

@@ -9,7 +9,7 @@ use Rattle.xan_lin.specs.declared.term.TooLarge.{TooLarge}
 use Rattle.index_sorts.specs.Known.{same_form}
 use Rattle.proof_lines.specs.declared.line.Line.{Line}
 use Rattle.state_types.specs.Answers.{Check, ◌>>=◌, within_bounds}
-use Rattle.state_types.specs.Matching.{pair_of, pair_found, pair_at, pairs_at, both_differences, differences, index_rows, type_rows, own_rows, demanded, meeting}
+use Rattle.state_types.specs.Matching.{pair_of, pair_found, pair_at, pairs_at, differences, index_rows, type_rows, own_rows, demanded, meeting}
 use Rattle.state_types.specs.PlaceTypes.{type_at}
 use Rattle.state_types.specs.Types.{index_of, same_kind}
 use Rattle.state_types.specs.declared.error.StateError.TheVariants as state_error

@@ -1,5 +1,5 @@
 -- What passes is accepted, and what is refused is not.
-use Rattle.std.proofs.Common.{◌≡◌, ◌∙◌, Result, Ok, Err, List, refl, sym, ap}
+use Rattle.std.proofs.Common.{◌≡◌, ◌∙◌, Ok, Err, List, refl, ap}
 use Rattle.std.specs.Prelude.{IsOk}
 use Rattle.state_types.specs.declared.state.StateType.{StateType}
 use Rattle.dtal_code.specs.Acceptance.{Accepted}

@@ -1,5 +1,5 @@
 -- The walk without the states is refused where the walk with them is.
-use Rattle.std.proofs.Common.{◌≡◌, ◌∙◌, ℕ, suc, ◌+◌, List, [], ◌∷◌, ◌++◌, drop, length, Result, Ok, Err, refl, sym, ap}
+use Rattle.std.proofs.Common.{◌≡◌, ◌∙◌, ℕ, suc, ◌+◌, List, [], ◌∷◌, ◌++◌, drop, length, Ok, Err, refl, ap}
 use Rattle.state_types.specs.Answers.{◌>>=◌}
 use Rattle.state_types.specs.declared.state.StateType.{StateType}
 use Rattle.operation_rules.specs.Rules.{Setting}

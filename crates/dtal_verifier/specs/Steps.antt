@@ -1,19 +1,21 @@
 -- What is asked of an instruction, cut where the code is cut.
-use Rattle.std.specs.Prelude.{ℕ, List, map, Ok, Err, true, false}
+use Rattle.std.specs.Prelude.{ℕ, Bool as Truth, ◌&&◌, List, [], ◌∷◌, Ok, Err, true, false}
 use Rattle.std.specs.List.{list_all}
 use Rattle.index_sorts.specs.Context.{IndexContext}
 use Rattle.xan_lin.specs.Linear.{Linear}
 use Rattle.proof_lines.specs.declared.line.Line.{Line}
 use Rattle.state_types.specs.Answers.{Check, ◌>>=◌}
 use Rattle.state_types.specs.Matching.{meeting}
+use Rattle.state_types.specs.declared.closed.Packed.{Packed}
 use Rattle.state_types.specs.declared.error.StateError.TheVariants as state_error
 use Rattle.state_types.specs.declared.state.StateType.{StateType}
 use Rattle.state_types.specs.declared.types.Ty.{Ty}
 use Rattle.operation_rules.specs.Applied.{all_there, applied, named}
 use Rattle.operation_rules.specs.Rules.{Setting, rule as rule_for}
 use Rattle.operation_rules.specs.declared.operation.Operation.{Operation}
+use Rattle.dtal_code.specs.declared.program.Function.{Function}
 use Rattle.dtal_code.specs.declared.refusal.Rule.TheVariants as rule
-use Rattle.dtal_code.specs.Declarations.{state_of}
+use Rattle.dtal_code.specs.Declarations.{state_of, types_exist, are_alone, names_own, are_few}
 use Rattle.dtal_code.specs.Instructions.{Instruction}
 use Rattle.dtal_code.specs.Passing.{are_different, asks_lines, is_listed, value_is_below, label_at, read_types, side_verdict, with_types}
 use Rattle.dtal_code.specs.Verdicts.{Verdict, asks, by_rule, found}
@@ -86,3 +88,12 @@ goes_to_by st labels state i values by = do
   kinds ← kinds_by st i.operation types state.ctx.vars
   left ← edge_by st state target i.operation types values by
   Ok (state_of left state.places)
+
+-- What is asked of a signature, by whether the function's name is new.
+unfoldable pub signature_by : Truth → List Packed → Function → Verdict (Unit {0})
+signature_by is_new table fun = do
+  other ← asks is_new rule.Name
+  exist ← asks (types_exist table (fun.sig.result ∷ fun.sig.params)) rule.NoType
+  alone ← asks (are_alone 0 fun.sig.vars fun.sig.params && are_alone fun.sig.vars fun.sig.result_vars (fun.sig.result ∷ [])) rule.Alone
+  named ← asks (names_own fun.sig) rule.Form
+  asks (are_few fun.sig.vars fun.sig.rows && are_few fun.sig.result_vars fun.sig.result_rows) rule.Size

@@ -1,6 +1,6 @@
 -- How the code's values are seen, and what is asked of them.
-use Rattle.std.specs.Prelude.{◌≡◌, ◌≤◌, ℕ, List, [], ◌∷◌, length}
-use Rattle.std.specs.List.{All}
+use Rattle.std.specs.Prelude.{◌≡◌, ◌≤◌, ℕ, Bool, not, if◌then◌else◌, List, [], ◌∷◌, ◌++◌, length, bytes_eq}
+use Rattle.std.specs.List.{All, list_any}
 use Rattle.proof_lines.specs.declared.line.Line.{Line}
 use Rattle.state_types.specs.Tables.{IsClosed, int_cell, bool_cell}
 use Rattle.state_types.specs.Types.{TypeBelow}
@@ -45,3 +45,10 @@ pub record AreDeclared (program : DtalProgram) : Type 0 where
   pub types : All IsClosed program.types
   pub few : All (λ packed. packed.vars ≤ 1024) program.types
   pub funs : All IsDeclared program.funs
+
+-- ---- the names of functions
+
+-- A name is new where none of those before is the same, and then stands behind them.
+pub record IsAdded (before : List (List ℕ)) (name : List ℕ) (is_new : Bool) (after : List (List ℕ)) : Type 0 where
+  pub new : is_new ≡ not (list_any (bytes_eq name) before)
+  pub behind : after ≡ (if is_new then before ++ name ∷ [] else before)

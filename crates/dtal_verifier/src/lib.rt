@@ -10,6 +10,7 @@ mod alone;
 mod asking;
 mod edges;
 mod error;
+mod function_names;
 mod functions;
 mod going;
 mod instruction;

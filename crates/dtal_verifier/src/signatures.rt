@@ -7,11 +7,13 @@ ghost use Rattle.dtal_code.specs.Refusing.{signatures_walked};
 ghost use Rattle.dtal_code.specs.Verdicts.{at_place};
 ghost use Rattle.dtal_code.specs.declared.refusal.Where.TheVariants as where_is;
 ghost use Rattle.dtal_verifier.specs.Code.{Gives, Passes};
+ghost use Rattle.dtal_verifier.specs.Steps.{signature_by};
 ghost use Rattle.dtal_verifier.specs.Views.{table_with};
 
 use crate::alone::are_alone;
 use crate::asking::asks;
 use crate::error::{Broken, VerifyError};
+use crate::function_names::FunctionNames;
 use crate::names::{rows_below, type_below, types_below};
 use crate::presence::{type_exists, types_exist};
 use crate::types::are_few;
@@ -19,19 +21,6 @@ use dtal_code::{DtalProgram, Function, Rule, Where};
 use state_types::{Packed, Signature, Ty};
 use std::alloc::Global;
 use xan_lin::Memory;
-
-// Whether one of the functions has the name.
-fn is_named(name: &[u8], mut funs: &[Function]) -> bool
-    ensures { result ≡ list_any (bytes_eq name.now) (map (λ fun. fun.name) funs.entry.now) }
-{
-    while let [fun, later @ ..] = funs {
-        if name == fun.name.bytes() {
-            return true;
-        }
-        funs = later;
-    }
-    false
-}
 
 // Whether what the signature's types name is there.
 fn is_there(types: &[Packed], sig: &Signature) -> bool
@@ -68,12 +57,12 @@ fn is_few(sig: &Signature) -> bool
     are_few(sig.vars, sig.rows.as_slice()) && are_few(sig.result_vars, sig.result_rows.as_slice())
 }
 
-// What is asked of a function's signature, behind other functions.
-#[tactic(auto, unfolding(dtal_code::specs::Declarations::signature_verdict))]
-fn check_signature(types: &[Packed], before: &[Function], fun: &Function) -> Result<(), Broken>
-    ensures { Gives (λ _. tt) result (spec.signature_verdict (table_with types.now) (map (λ f. f.name) before.now) fun.now) }
+// What is asked of a function's signature.
+#[tactic(auto, unfolding(crate::specs::Steps::signature_by))]
+fn check_signature(types: &[Packed], is_new: bool, fun: &Function) -> Result<(), Broken>
+    ensures { Gives (λ _. tt) result (signature_by is_new (table_with types.now) fun.now) }
 {
-    asks(!is_named(fun.name.bytes(), before), Rule::Name)?;
+    asks(is_new, Rule::Name)?;
     asks(is_there(types, &fun.sig), Rule::NoType)?;
     asks(has_indices(&fun.sig), Rule::Alone)?;
     asks(names_own(&fun.sig), Rule::Form)?;
@@ -84,27 +73,34 @@ fn check_signature(types: &[Packed], before: &[Function], fun: &Function) -> Res
 #[tactic(auto, using(crate::proofs::VerdictParts::place_fails))]
 fn check_signature_at(
     types: &[Packed],
-    before: &[Function],
+    is_new: bool,
     fun: &Function,
     number: u32,
 ) -> Result<(), VerifyError>
-    ensures { Passes (λ _. tt) result (at_place (where_is.Signature number) (spec.signature_verdict (table_with types.now) (map (λ f. f.name) before.now) fun.now)) }
+    ensures { Passes (λ _. tt) result (at_place (where_is.Signature number) (signature_by is_new (table_with types.now) fun.now)) }
 {
-    match check_signature(types, before, fun) {
+    match check_signature(types, is_new, fun) {
         Ok(()) => Ok(()),
         Err(broken) => Err(broken.at(Where::Signature(number))),
     }
 }
 
 /// What is asked of all signatures.
-#[tactic(auto, using(crate::proofs::SignaturesTurns::signed_turn, crate::proofs::SignaturesTurns::signed_not), unfolding(dtal_code::specs::Refusing::signatures_walked))]
-pub(crate) fn check_signatures(types: &[Packed], funs: &[Function]) -> Result<(), VerifyError>
+#[tactic(auto, unfolding(dtal_code::specs::Refusing::signatures_walked))]
+pub(crate) fn check_signatures(
+    alloc: Global,
+    types: &[Packed],
+    funs: &[Function],
+) -> Result<(), VerifyError>
     requires { length funs.now ≤ 4294967295 }
     ensures { Passes (λ _. tt) result (signatures_walked (table_with types.now) 0 [] funs.now) }
 {
+    let mut names = FunctionNames::new(alloc);
     let mut number = 0usize;
     while number < funs.len() {
-        check_signature_at(types, &funs[..number], &funs[number], number as u32)?;
+        let fun = &funs[number];
+        let is_new = names.add(fun.name.bytes())?;
+        check_signature_at(types, is_new, fun, number as u32)?;
         number += 1;
     }
     Ok(())

@@ -33,14 +33,14 @@ impl Verified {
 
 // What is asked of types, signatures and the program.
 #[tactic(auto, unfolding(crate::specs::Walks::declarations_passed))]
-fn check_declarations(program: &DtalProgram) -> Result<(), VerifyError>
+fn check_declarations(alloc: Global, program: &DtalProgram) -> Result<(), VerifyError>
     requires { InGrammar program.now }
     ensures passed { Passes (λ _. tt) result (spec.declarations_passed program.now) }
     ensures declared { IfOk result (λ _. AreDeclared program.now) }
 {
     let types = program.types.as_slice();
     check_types(types)?;
-    check_signatures(types, program.funs.as_slice())?;
+    check_signatures(alloc, types, program.funs.as_slice())?;
     check_program(program)
 }
 
@@ -50,7 +50,7 @@ fn check_places(alloc: Global, program: &DtalProgram) -> Result<(), VerifyError>
     requires { InGrammar program.now }
     ensures { Passes (λ _. tt) result (spec.program_passed program.now) }
 {
-    check_declarations(program)?;
+    check_declarations(alloc, program)?;
     check_functions(alloc, program)
 }
 

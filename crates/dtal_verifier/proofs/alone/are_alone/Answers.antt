@@ -1,4 +1,4 @@
-use Rattle.std.proofs.Common.{rules, ◌≡◌, ◌∙◌, arith}
+use Rattle.std.proofs.Common.{rules, ◌∙◌}
 use Rattle.dtal_verifier.proofs.AloneTurns.{alone_turn}
 use Rattle.dtal_verifier.proofs.alone.are_alone.Goals as goal
 
