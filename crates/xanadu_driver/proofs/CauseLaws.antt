@@ -5,19 +5,21 @@ use Rattle.std.proofs.lemmas.Slice.Eq.{bytes_eq-Decides}
 use Rattle.xan_io.specs.Faults.{Rose}
 use Rattle.dtal_code.specs.declared.straight.Straight.{Straight}
 use Rattle.typed_core.specs.declared.goal.GoalAt.{GoalAt}
-use Rattle.xanadu_driver.specs.declared.answer.Answer.{Answer}
-use Rattle.xanadu_driver.specs.declared.answer.Answer.TheVariants.{Built, NoCommand, ReadFailed, WriteFailed, Memory, Refused}
-use Rattle.xanadu_driver.specs.declared.refusal.Refusal.{Refusal}
-use Rattle.xanadu_driver.specs.declared.refusal.SourceError.{SourceError}
-use Rattle.xanadu_driver.specs.declared.refusal.SourceError.TheVariants as error
-use Rattle.xanadu_driver.specs.Answers.{Keeps}
-use Rattle.xanadu_driver.specs.Causes.{Unchanged, BuildCauses, GoalsCauses, Causes, SaidAll, Went, NothingFailed, IsReported}
+use Rattle.command_reports.specs.declared.answer.Answer.{Answer}
+use Rattle.command_reports.specs.declared.answer.Answer.TheVariants.{Built, NoCommand, ReadFailed, WriteFailed, Memory, Refused}
+use Rattle.command_reports.specs.declared.refusal.Refusal.{Refusal}
+use Rattle.command_reports.specs.declared.refusal.SourceError.{SourceError}
+use Rattle.command_reports.specs.declared.refusal.SourceError.TheVariants as error
+use Rattle.command_reports.specs.Answers.{Keeps}
+use Rattle.xanadu_driver.specs.Causes.{Unchanged, BuildCauses, GoalsCauses, Causes, Went, NothingFailed}
+use Rattle.command_reports.specs.Said.{SaidAll, IsReported}
 use Rattle.xanadu_driver.specs.Correct.{Wrote, Cut}
 use Rattle.xanadu_driver.specs.Fate.{fate, goals_of}
-use Rattle.xanadu_driver.specs.Outside.{Held, Outside}
-use Rattle.xanadu_driver.specs.Report.{Report, Found, Answered, Listed, report_of, built, listed, report}
+use Rattle.command_reports.specs.Outside.{Held, Outside}
+use Rattle.command_reports.specs.Report.{Report, Found, Answered, Listed, report_of}
+use Rattle.xanadu_driver.specs.Reported.{built, listed, report}
 use Rattle.xanadu_driver.specs.Source.{IsRefused}
-use Rattle.xanadu_driver.specs.Words.{Meant, Build, Goals}
+use Rattle.command_reports.specs.Words.{Meant, Build, Goals}
 use Rattle.xanadu_driver.proofs.FateLaws.{fate_is, goals_are, goals_refused}
 
 -- ---- the cause

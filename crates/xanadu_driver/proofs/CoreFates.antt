@@ -18,14 +18,13 @@ use Rattle.xanadu_tree.specs.Plain as plain
 use Rattle.xanadu_tree.specs.PlainTree as tree
 use Rattle.type_shapes.specs.Faults.{Check}
 use Rattle.scope_shapes.specs.Shape.{shape}
-use Rattle.xanadu_driver.specs.declared.refusal.Refusal.{Refusal}
-use Rattle.xanadu_driver.specs.declared.refusal.Refusal.TheVariants as refusal
-use Rattle.xanadu_driver.specs.declared.refusal.SourceError.{SourceError}
-use Rattle.xanadu_driver.specs.declared.refusal.SourceError.TheVariants as error
-use Rattle.xanadu_driver.specs.declared.refusal.TheConstants.{SOURCE_MOST}
+use Rattle.command_reports.specs.declared.refusal.Refusal.{Refusal}
+use Rattle.command_reports.specs.declared.refusal.Refusal.TheVariants as refusal
+use Rattle.command_reports.specs.declared.refusal.SourceError.{SourceError}
+use Rattle.command_reports.specs.declared.refusal.SourceError.TheVariants as error
 use Rattle.xanadu_driver.specs.Fate.{core_of, or_stop, of_fault}
-use Rattle.xanadu_driver.specs.Stops.{of_lexer, of_parser}
-use Rattle.xanadu_driver.specs.Source.{HasTokens, HasTree, IsCore}
+use Rattle.command_reports.specs.Stops.{of_lexer, of_parser}
+use Rattle.xanadu_driver.specs.Source.{source_most, HasTokens, HasTree, IsCore}
 use Rattle.xanadu_driver.proofs.Fates.{HasNoCore, one_core, one_refusal, not_refused}
 use Rattle.xanadu_driver.proofs.ParsedAnswers.{answered, never_memory}
 
@@ -91,29 +90,29 @@ module _ (bytes : List ℕ) where
       by_answer (Err (parse_error.Fault at)) e is = record { tokens = tokens; has = has; shallow = is.0; fault = is.1 }
       by_answer (Err parse_error.Memory) e is = absurd (never_memory tokens (length bytes) e)
 
-  token_fate : length bytes ≤ SOURCE_MOST → (read : Result (List Token) LexError) → lexed bytes ≡ read → IsTold read
+  token_fate : length bytes ≤ source_most → (read : Result (List Token) LexError) → lexed bytes ≡ read → IsTold read
       → HasCoreFate bytes (or_stop of_lexer read >>= λ tokens. or_stop of_parser (parsed tokens (length bytes))
       >>= λ written. or_stop of_fault (shape written (length bytes)))
   token_fate less (Ok tokens) e told = tree_fate tokens (record { short = less; lexed = e }) (parsed tokens (length bytes)) refl
   token_fate less (Err (lex_error.Fault at kind)) e told = record { short = less; kind = kind; fault = e }
   token_fate less (Err lex_error.Memory) e told = absurd told
 
-  length_fate : (few : Bool) → nat_le (length bytes) SOURCE_MOST ≡ few
+  length_fate : (few : Bool) → nat_le (length bytes) source_most ≡ few
       → HasCoreFate bytes (cond few (Ok bytes) (Err (error.Refused refusal.Length)) >>= λ source. or_stop of_lexer (lexed source)
       >>= λ tokens. or_stop of_parser (parsed tokens (length source)) >>= λ written. or_stop of_fault (shape written (length source)))
   length_fate true e = token_fate (at_most (length bytes) e) (lexed bytes) refl (lexed-told bytes)
     where
-      at_most : (n : ℕ) → nat_le n SOURCE_MOST ≡ true → n ≤ SOURCE_MOST
+      at_most : (n : ℕ) → nat_le n source_most ≡ true → n ≤ source_most
       at_most n h = grind (arith, nat_tests)
   length_fate false e = more (length bytes) e
     where
-      more : (n : ℕ) → nat_le n SOURCE_MOST ≡ false → SOURCE_MOST < n
+      more : (n : ℕ) → nat_le n source_most ≡ false → source_most < n
       more n h = grind (arith, nat_tests)
 
 -- the source has the core that is computed, or is refused for what is computed
 pub has_core_fate : (bytes : List ℕ) → HasCoreFate bytes (core_of bytes)
 unfolding core_of
-has_core_fate bytes = length_fate bytes (nat_le (length bytes) SOURCE_MOST) refl
+has_core_fate bytes = length_fate bytes (nat_le (length bytes) source_most) refl
 
 -- and nothing else
 pub core_is : (bytes : List ℕ) (other : Result plain.Program SourceError) → HasCoreFate bytes other → core_of bytes ≡ other

@@ -13,10 +13,10 @@ use Rattle.xanadu_tree.specs.Plain as plain
 use Rattle.xanadu_tree.specs.Shaped.{Shaped}
 use Rattle.xanadu_tree.specs.Small.{IsSmall, int_of, number_program}
 use Rattle.scope_shapes.proofs.ShapedPrograms.{shape_is_shaped}
-use Rattle.xanadu_driver.specs.declared.refusal.Refusal.{Refusal}
-use Rattle.xanadu_driver.specs.declared.refusal.Refusal.TheVariants as refusal
-use Rattle.xanadu_driver.specs.declared.refusal.SourceError.{SourceError}
-use Rattle.xanadu_driver.specs.declared.refusal.SourceError.TheVariants as error
+use Rattle.command_reports.specs.declared.refusal.Refusal.{Refusal}
+use Rattle.command_reports.specs.declared.refusal.Refusal.TheVariants as refusal
+use Rattle.command_reports.specs.declared.refusal.SourceError.{SourceError}
+use Rattle.command_reports.specs.declared.refusal.SourceError.TheVariants as error
 use Rattle.xanadu_driver.specs.Fate.{Checked, checked_with, core_of, checked_of, goals_of, fate, or_stop, of_walk, none_fails, other_form, lowered_functions, lowered}
 use Rattle.xanadu_driver.specs.Forms.{is_small}
 use Rattle.xanadu_driver.specs.Lowering.{straight_of}

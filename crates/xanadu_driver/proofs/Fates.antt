@@ -16,14 +16,13 @@ use Rattle.xanadu_tree.proofs.ReadTrees.{read_is_written}
 use Rattle.type_shapes.specs.declared.error.ShapeKind.{ShapeKind}
 use Rattle.type_shapes.specs.Faults.{Fault}
 use Rattle.scope_shapes.specs.Shape.{shape}
-use Rattle.xanadu_driver.specs.declared.refusal.Refusal.{Refusal}
-use Rattle.xanadu_driver.specs.declared.refusal.Refusal.TheVariants as refusal
-use Rattle.xanadu_driver.specs.declared.refusal.TheConstants.{SOURCE_MOST}
-use Rattle.xanadu_driver.specs.Source.{HasTokens, HasTree, IsCore, IsBytesFault, IsNestedSource, IsParseFault, IsShapeFault}
+use Rattle.command_reports.specs.declared.refusal.Refusal.{Refusal}
+use Rattle.command_reports.specs.declared.refusal.Refusal.TheVariants as refusal
+use Rattle.xanadu_driver.specs.Source.{source_most, HasTokens, HasTree, IsCore, IsBytesFault, IsNestedSource, IsParseFault, IsShapeFault}
 
 -- it comes to no core for this
 abbrev pub HasNoCore : List ℕ → Refusal → Type 0
-HasNoCore bytes refusal.Length = SOURCE_MOST < length bytes
+HasNoCore bytes refusal.Length = source_most < length bytes
 HasNoCore bytes (refusal.Bytes at) = IsBytesFault bytes at
 HasNoCore bytes refusal.Nesting = IsNestedSource bytes
 HasNoCore bytes (refusal.Parse at) = IsParseFault bytes at
@@ -141,7 +140,7 @@ module _ (bytes : List ℕ) where
   no_written at written x y =
       x.fault.no_tree written (subst (λ (l : List Token). Parses l (length bytes) written) (one_tokens bytes y.tokens x.tokens y.has x.has) y.parses)
 
-  too_long : SOURCE_MOST < length bytes → length bytes ≤ SOURCE_MOST → ⊥
+  too_long : source_most < length bytes → length bytes ≤ source_most → ⊥
   too_long x y = absurd (omega (arith, x, y))
 
   not_nested : IsNestedSource bytes → (tokens : List Token) → HasTokens bytes tokens → (IsTooNested (kinds_of tokens) → ⊥) → ⊥

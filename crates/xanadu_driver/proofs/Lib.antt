@@ -2,8 +2,6 @@ pub mod CauseLaws
 pub mod CoreFates
 pub mod Emission
 pub mod FateLaws
-pub mod Listings
-pub mod LinePieces
 pub mod ParsedAnswers
 pub mod Fates
 pub mod SmallRanges

@@ -6,7 +6,7 @@ use Rattle.std.specs.Prelude.{Vec}
 use Rattle.goal_table.specs.Answers.{AllAreProved}
 use Rattle.typed_core.specs.Proving.{ElaboratedParts, ProvedParts}
 use Rattle.xanadu_tree.specs.PlainOf.{CoreParts, plain_core}
-use Rattle.xanadu_driver.specs.declared.refusal.SourceError.{SourceError}
+use Rattle.command_reports.specs.declared.refusal.SourceError.{SourceError}
 use Rattle.xanadu_driver.specs.declared.translate.Text.{Text}
 use Rattle.std.specs.declared.alloc.Global.{Global}
 use Rattle.xan_io.specs.declared.files.FileRead.{FileRead}

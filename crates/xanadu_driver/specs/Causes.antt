@@ -1,18 +1,16 @@
--- Why a command comes to what it does, what the names hold then, and how much of it is said.
+-- Why a command comes to what it does, and what the names hold then.
 use Rattle.std.specs.Prelude.{◌≡◌, ◌⊎◌, ℕ, List, Option, Some, None}
-use Rattle.std.specs.List.{concat}
-use Rattle.std.specs.Io.KnownBytes.{append_known}
 use Rattle.xan_io.specs.Faults.{Rose}
-use Rattle.xan_io.specs.Written.{AppendsPrefix}
 use Rattle.typed_core.specs.declared.goal.GoalAt.{GoalAt}
-use Rattle.xanadu_driver.specs.declared.answer.Answer.{Answer}
-use Rattle.xanadu_driver.specs.declared.answer.Answer.TheVariants as answer
-use Rattle.xanadu_driver.specs.declared.refusal.Refusal.{Refusal}
+use Rattle.command_reports.specs.declared.answer.Answer.{Answer}
+use Rattle.command_reports.specs.declared.answer.Answer.TheVariants as answer
+use Rattle.command_reports.specs.declared.refusal.Refusal.{Refusal}
 use Rattle.xanadu_driver.specs.Correct.{Wrote, Cut}
-use Rattle.xanadu_driver.specs.Outside.{Held, Outside}
-use Rattle.xanadu_driver.specs.Report.{Report, Found, Answered, Listed, report_of}
+use Rattle.command_reports.specs.Outside.{Held, Outside}
+use Rattle.command_reports.specs.Report.{Found, Answered, Listed, report_of}
+use Rattle.command_reports.specs.Said.{Says}
 use Rattle.xanadu_driver.specs.Source.{HasGoals, IsRefused, IsEarly}
-use Rattle.xanadu_driver.specs.Words.{Meant, Build, Goals}
+use Rattle.command_reports.specs.Words.{Meant, Build, Goals}
 
 -- ---- names
 
@@ -90,23 +88,6 @@ Causes (Some (Build source target)) before after (Answered answer) = BuildCauses
 Causes (Some (Build source target)) before after (Listed goals) = ⊥
 Causes (Some (Goals source)) before after found = GoalsCauses source before after found
 
--- ---- what is said
-
--- all lines were put, and the status is their own
-pub record SaidAll (report : Report) (status faults faults' : ℕ) (out out' : Option (List ℕ)) : Type 0 where
-  pub status_is : status ≡ report.status
-  pub said : out' ≡ append_known out (concat report.lines)
-  pub counted : faults' ≡ faults
-
--- a part of them was put, and the count of faults rose
-pub record SaidPart (report : Report) (status faults faults' : ℕ) (out out' : Option (List ℕ)) : Type 0 where
-  pub status_is : status ≡ 4
-  pub part : AppendsPrefix out out' (concat report.lines)
-  pub rose : Rose faults faults'
-
-abbrev pub Says : Report → (status faults faults' : ℕ) → (out out' : Option (List ℕ)) → Type 0
-Says report status faults faults' out out' = SaidAll report status faults faults' out out' ⊎ SaidPart report status faults faults' out out'
-
 -- ---- whole commands
 
 -- how a command went: what it came to, the cause, and how much was said of it
@@ -120,8 +101,3 @@ pub record NothingFailed (meant : Option Meant) (before after : Outside) : Type 
   pub reads : (name : List ℕ) → Reads meant name → Rose (before.files.read_faults name) (after.files.read_faults name) → ⊥
   pub writes : (name : List ℕ) → Writes meant name → Rose (before.files.write_faults name) (after.files.write_faults name) → ⊥
   pub puts : Rose before.faults after.faults → ⊥
-
--- the status and the lines are those of the report
-pub record IsReported (report : Report) (status : ℕ) (out out' : Option (List ℕ)) : Type 0 where
-  pub status_is : status ≡ report.status
-  pub said : out' ≡ append_known out (concat report.lines)

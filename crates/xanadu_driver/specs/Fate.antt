@@ -11,13 +11,13 @@ use Rattle.typed_core.specs.Limits.{Stop, Past, Misfit, Stray}
 use Rattle.typed_core.specs.declared.goal.GoalAt.{GoalAt}
 use Rattle.goal_table.specs.Unproved.{Failure, first_unproved}
 use Rattle.dtal_code.specs.declared.straight.Straight.{Straight}
-use Rattle.xanadu_driver.specs.declared.refusal.Refusal.TheVariants as refusal
-use Rattle.xanadu_driver.specs.declared.refusal.SourceError.{SourceError}
-use Rattle.xanadu_driver.specs.declared.refusal.SourceError.TheVariants as error
-use Rattle.xanadu_driver.specs.declared.refusal.TheConstants.{SOURCE_MOST}
+use Rattle.command_reports.specs.declared.refusal.Refusal.TheVariants as refusal
+use Rattle.command_reports.specs.declared.refusal.SourceError.{SourceError}
+use Rattle.command_reports.specs.declared.refusal.SourceError.TheVariants as error
 use Rattle.xanadu_driver.specs.Forms.{is_small, returned}
 use Rattle.xanadu_driver.specs.Lowering.{straight_of}
-use Rattle.xanadu_driver.specs.Stops.{of_lexer, of_parser}
+use Rattle.command_reports.specs.Stops.{of_lexer, of_parser}
+use Rattle.xanadu_driver.specs.Source.{source_most}
 
 -- what a pass gives, or what its error stops the source with
 abbrev pub or_stop : {A E : Type 0} → (E → SourceError) → Result A E → Result A SourceError
@@ -26,7 +26,7 @@ or_stop stop (Err error) = Err (stop error)
 
 -- the bytes, where there are not too many
 abbrev pub short : List ℕ → Result (List ℕ) SourceError
-short bytes = if nat_le (length bytes) SOURCE_MOST then Ok bytes else Err (error.Refused refusal.Length)
+short bytes = if nat_le (length bytes) source_most then Ok bytes else Err (error.Refused refusal.Length)
 
 abbrev pub of_fault : Fault → SourceError
 of_fault fault = error.Refused (refusal.Shape fault.kind fault.at)

@@ -1,14 +1,9 @@
-pub mod Answers
 pub mod Causes
 pub mod Correct
 pub mod Fate
+pub mod Finding
 pub mod Forms
-pub mod Goals
-pub mod Listing
 pub mod Lowering
 pub mod Meaning
-pub mod Outside
-pub mod Report
+pub mod Reported
 pub mod Source
-pub mod Stops
-pub mod Words

@@ -18,23 +18,27 @@ use Rattle.type_shapes.specs.declared.error.ShapeKind.{ShapeKind}
 use Rattle.type_shapes.specs.Faults.{Fault}
 use Rattle.scope_shapes.specs.Shape.{shape}
 use Rattle.xan_lin.specs.declared.term.LimitKind.{LimitKind}
+use Rattle.xan_lin.specs.declared.term.LimitKind.TheVariants as limit
 use Rattle.typed_core.specs.Goals.{Elaboration, elaborated}
-use Rattle.typed_core.specs.Limits.{Past}
+use Rattle.typed_core.specs.Limits.{Past, most}
 use Rattle.typed_core.specs.declared.goal.GoalAt.{GoalAt}
 use Rattle.goal_table.specs.Unproved.{Failure, first_unproved}
 use Rattle.dtal_code.specs.declared.straight.Straight.{Straight}
 use Rattle.xanadu_driver.specs.Lowering.{straight_of}
-use Rattle.xanadu_driver.specs.declared.refusal.Refusal.{Refusal}
-use Rattle.xanadu_driver.specs.declared.refusal.Refusal.TheVariants as refusal
-use Rattle.xanadu_driver.specs.declared.refusal.TheConstants.{SOURCE_MOST}
-use Rattle.xanadu_driver.specs.declared.refusal.SourceError.{SourceError}
-use Rattle.xanadu_driver.specs.declared.refusal.SourceError.TheVariants as error
+use Rattle.command_reports.specs.declared.refusal.Refusal.{Refusal}
+use Rattle.command_reports.specs.declared.refusal.Refusal.TheVariants as refusal
+use Rattle.command_reports.specs.declared.refusal.SourceError.{SourceError}
+use Rattle.command_reports.specs.declared.refusal.SourceError.TheVariants as error
 
 -- ---- how far a source comes
 
+-- how many bytes a source may have
+abbrev pub source_most : ℕ
+source_most = most limit.Length
+
 -- it is short enough, and has these tokens
 pub record HasTokens (bytes : List ℕ) (tokens : List Token) : Type 0 where
-  pub short : length bytes ≤ SOURCE_MOST
+  pub short : length bytes ≤ source_most
   pub lexed : lexed bytes ≡ Ok tokens
 
 -- its brackets do not nest too deep, and its tokens spell this tree
@@ -79,7 +83,7 @@ pub record HasCode (bytes : List ℕ) (program : Straight) : Type 0 where
 
 -- this is the place of the first byte at which no token begins, or where digits begin that are no number
 pub record IsBytesFault (bytes : List ℕ) (at : ℕ) : Type 0 where
-  pub short : length bytes ≤ SOURCE_MOST
+  pub short : length bytes ≤ source_most
   pub kind : LexKind
   pub fault : lexed bytes ≡ Err (lex_error.Fault at kind)
 
@@ -123,7 +127,7 @@ pub record IsOfOtherForm (bytes : List ℕ) : Type 0 where
 
 -- The source is refused for this. It is refused for one thing at most, and then it has no small core.
 abbrev pub IsRefused : List ℕ → Refusal → Type 0
-IsRefused bytes refusal.Length = SOURCE_MOST < length bytes
+IsRefused bytes refusal.Length = source_most < length bytes
 IsRefused bytes (refusal.Bytes at) = IsBytesFault bytes at
 IsRefused bytes refusal.Nesting = IsNestedSource bytes
 IsRefused bytes (refusal.Parse at) = IsParseFault bytes at

@@ -2,17 +2,16 @@
 
 ghost use Rattle.std.specs.Prelude.{◌≡◌, ◌≢◌, ◌≤◌, ℕ, List, Some, length};
 ghost use Rattle.xan_io.specs.Faults.{Rose};
-ghost use Rattle.xanadu_driver.specs.declared.refusal.Refusal.{Refusal};
+ghost use Rattle.command_reports.specs.declared.refusal.Refusal.{Refusal};
 ghost use Rattle.xanadu_driver.specs.Correct.{Wrote, Cut};
-ghost use Rattle.xanadu_driver.specs.Answers.{Keeps};
-ghost use Rattle.xanadu_driver.specs.declared.refusal.TheConstants.{SOURCE_MOST};
-ghost use Rattle.xanadu_driver.specs.Source.{IsRefused};
+ghost use Rattle.command_reports.specs.Answers.{Keeps};
+ghost use Rattle.xanadu_driver.specs.Source.{IsRefused, source_most};
 
-use crate::answer::Answer;
-use crate::refusal::{Refusal, SOURCE_MOST, SourceError};
 use crate::translate::compile;
+use command_reports::{Answer, Refusal, SourceError, most};
 use std::alloc::Global;
 use xan_io::{FileFault, FileRead, Files};
+use xan_lin::LimitKind;
 
 /// Reads the source, and writes its text under the other name.
 pub fn build<F: Files>(alloc: Global, files: &mut F, source: &str, target: &str) -> Answer
@@ -25,7 +24,7 @@ pub fn build<F: Files>(alloc: Global, files: &mut F, source: &str, target: &str)
     ensures cut { result ≡ Answer.WriteFailed → (told : List ℕ) → F.content files.old source.now ≡ Some told → Cut told (F.content files.old target.now) (F.content files.new target.now) }
     ensures built { (instructions : ℕ) → result ≡ Answer.Built instructions → (told : List ℕ) → F.content files.old source.now ≡ Some told → Wrote told instructions (F.content files.old target.now) (F.content files.new target.now) }
 {
-    match files.read(alloc, source, SOURCE_MOST) {
+    match files.read(alloc, source, most(LimitKind::Length)) {
         Ok(FileRead::Whole(bytes)) => build_bytes(alloc, files, bytes.as_slice(), target),
         Ok(FileRead::TooLong) => Answer::Refused(Refusal::Length),
         Err(FileFault::Failed) => Answer::ReadFailed,
@@ -35,7 +34,7 @@ pub fn build<F: Files>(alloc: Global, files: &mut F, source: &str, target: &str)
 
 /// Writes the text of the source.
 fn build_bytes<F: Files>(alloc: Global, files: &mut F, source: &[u8], target: &str) -> Answer
-    requires { length source.now ≤ SOURCE_MOST }
+    requires { length source.now ≤ source_most }
     ensures command { result ≢ Answer.NoCommand }
     ensures read { result ≢ Answer.ReadFailed }
     ensures others { (name : List ℕ) → name ≢ target.now → F.content files.new name ≡ F.content files.old name }

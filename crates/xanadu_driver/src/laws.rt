@@ -2,7 +2,7 @@
 
 ghost use Rattle.std.specs.Prelude.{◌≡◌, ℕ, List, Result};
 ghost use Rattle.dtal_code.specs.declared.straight.Straight.{Straight};
-ghost use Rattle.xanadu_driver.specs.declared.refusal.SourceError.{SourceError};
+ghost use Rattle.command_reports.specs.declared.refusal.SourceError.{SourceError};
 ghost use Rattle.xanadu_driver.specs.Fate.{fate};
 ghost use Rattle.xanadu_driver.specs.Source.{HasFate};
 

@@ -5,20 +5,13 @@
 //! the parser, the shapes, elaboration, the solver, the assembly language, and the files and the sink that it is given.
 #![tactic(auto)]
 
-mod answer;
 mod build;
-mod goal_lines;
 mod goals;
 mod laws;
-mod lines;
-mod listing;
 mod lower;
-mod refusal;
 mod small;
 mod top;
 mod translate;
-mod words;
-mod workspace;
 
 pub use laws::sources_have_one_fate;
 pub use top::xanadu_top;

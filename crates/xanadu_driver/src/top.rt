@@ -1,18 +1,17 @@
 //! The whole program: words in, a status out.
 
 ghost use Rattle.std.specs.Prelude.{◌≡◌, ◌≢◌, ◌⊎◌, ℕ, List, Some, IfOk};
-ghost use Rattle.xanadu_driver.specs.Causes.{Causes, Says, Went, Writes, NothingFailed, IsReported};
-ghost use Rattle.xanadu_driver.specs.Listing.{HasRoom, found_of};
-ghost use Rattle.xanadu_driver.specs.Outside.{held, outside};
-ghost use Rattle.xanadu_driver.specs.Report.{Report, Answered, report, report_of};
-ghost use Rattle.xanadu_driver.specs.Words.{commanded};
+ghost use Rattle.xanadu_driver.specs.Causes.{Causes, Went, Writes, NothingFailed};
+ghost use Rattle.command_reports.specs.Said.{IsReported};
+ghost use Rattle.command_reports.specs.Listing.{HasRoom, found_of};
+ghost use Rattle.command_reports.specs.Outside.{held, outside};
+ghost use Rattle.command_reports.specs.Report.{Report};
+ghost use Rattle.xanadu_driver.specs.Reported.{report};
+ghost use Rattle.command_reports.specs.Words.{commanded};
 
-use crate::answer::Answer;
 use crate::build::build;
 use crate::goals::goals;
-use crate::lines::put_line;
-use crate::listing::{Listing, list};
-use crate::words::{Command, read_command};
+use command_reports::{Answer, Command, Listing, list, read_command, say};
 use std::alloc::Global;
 use xan_io::{Files, Sink};
 
@@ -59,15 +58,5 @@ fn run<F: Files>(alloc: Global, words: &[&str], files: &mut F) -> Result<Listing
         Some(Command::Build { source, target }) => Err(build(alloc, files, source, target)),
         Some(Command::Goals(source)) => goals(alloc, files, source),
         None => Err(Answer::NoCommand),
-    }
-}
-
-/// Puts the answer's line, and gives its status, or 4 where the line was not put whole.
-fn say<O: Sink>(out: &mut O, answer: &Answer) -> u8
-    ensures { Says (report_of (Answered answer.now)) result (O.faults out.old) (O.faults out.new) (O.written out.old) (O.written out.new) }
-{
-    match put_line(out, answer) {
-        Ok(()) => answer.status(),
-        Err(_fault) => Answer::WriteFailed.status(),
     }
 }

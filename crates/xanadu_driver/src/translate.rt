@@ -7,13 +7,11 @@ ghost use Rattle.xanadu_tree.specs.PlainTreeOf.{plain_tree};
 ghost use Rattle.xanadu_tree.specs.Small.{IsSmall};
 ghost use Rattle.goal_table.specs.Answers.{AllAreProved};
 ghost use Rattle.xanadu_driver.specs.Correct.{Translates, IsTextOf};
-ghost use Rattle.xanadu_driver.specs.Source.{IsCore, IsElaborated, Stops, ComesEarly, FailsGoals, FailsForm};
-ghost use Rattle.xanadu_driver.specs.declared.refusal.TheConstants.{SOURCE_MOST};
+ghost use Rattle.xanadu_driver.specs.Source.{IsCore, IsElaborated, Stops, ComesEarly, FailsGoals, FailsForm, source_most};
 
 use crate::lower::lower;
-use crate::refusal::{Refusal, SourceError};
 use crate::small::is_small;
-use crate::workspace::Workspace;
+use command_reports::{Refusal, SourceError, Workspace};
 use constraint_elaborator::elaborate;
 use dtal_code::{one_program_a_text, print_straight};
 use goal_table::prove_all;
@@ -35,7 +33,7 @@ pub struct Text {
 /// The text of the source's program, which does what the source does. `Refused` tells the first thing that the source is refused for,
 /// behind its length.
 pub fn compile(alloc: Global, source: &[u8]) -> Result<Text, SourceError>
-    requires { length source.now ≤ SOURCE_MOST }
+    requires { length source.now ≤ source_most }
     ensures text { IfOk result (λ text. Translates source.now text.bytes.items text.instructions) }
     ensures refused { IfErr result (Stops source.now) }
 {
@@ -46,7 +44,7 @@ pub fn compile(alloc: Global, source: &[u8]) -> Result<Text, SourceError>
 
 /// The source's core with all that elaboration makes of it.
 pub fn elaborate_source(alloc: Global, source: &[u8]) -> Result<Elaborated, SourceError>
-    requires { length source.now ≤ SOURCE_MOST }
+    requires { length source.now ≤ source_most }
     ensures goals { IfOk result (λ base. IsElaborated source.now (plain_core base.core) base.made) }
     ensures refused { IfErr result (Stops source.now) }
     ensures early { IfErr result ComesEarly }
@@ -57,7 +55,7 @@ pub fn elaborate_source(alloc: Global, source: &[u8]) -> Result<Elaborated, Sour
 
 /// The source's core.
 fn find_core(alloc: Global, source: &[u8]) -> Result<Core, SourceError>
-    requires { length source.now ≤ SOURCE_MOST }
+    requires { length source.now ≤ source_most }
     ensures core { IfOk result (λ core. IsCore source.now (plain_core core)) }
     ensures refused { IfErr result (Stops source.now) }
     ensures early { IfErr result ComesEarly }

@@ -1,6 +1,6 @@
 use Rattle.std.proofs.Common.{Some, ap, ◌∙◌}
-use Rattle.xanadu_driver.specs.Words.{view}
-use Rattle.xanadu_driver.specs.declared.words.Command.{Command}
+use Rattle.command_reports.specs.Words.{view}
+use Rattle.command_reports.specs.declared.words.Command.{Command}
 use Rattle.xanadu_driver.proofs.CauseLaws.{caused_build, build_causes}
 use Rattle.xanadu_driver.proofs.top.run.Goals as goal
 

@@ -1,4 +1,4 @@
-use Rattle.xanadu_driver.specs.Report.{Answered, Listed}
+use Rattle.command_reports.specs.Report.{Answered, Listed}
 use Rattle.xanadu_driver.proofs.CauseLaws.{went_reported, went_complete}
 use Rattle.xanadu_driver.proofs.top.xanadu_top.Goals as goal
 

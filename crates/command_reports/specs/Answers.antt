@@ -6,12 +6,13 @@ use Rattle.xan_lin.specs.Linear.{Linear}
 use Rattle.xan_lin.specs.Text.{form_text}
 use Rattle.xan_lin.specs.declared.term.LimitKind.{LimitKind}
 use Rattle.xan_lin.specs.declared.term.LimitKind.TheVariants as limit
+use Rattle.typed_core.specs.Limits.{most}
 use Rattle.linear_solver.specs.declared.answer.Answer.{Answer as Found}
 use Rattle.linear_solver.specs.declared.answer.Answer.TheVariants as found
-use Rattle.xanadu_driver.specs.declared.answer.Answer.{Answer}
-use Rattle.xanadu_driver.specs.declared.answer.Answer.TheVariants.{Built, NoCommand, ReadFailed, WriteFailed, Memory, Refused}
-use Rattle.xanadu_driver.specs.declared.refusal.Refusal.{Refusal}
-use Rattle.xanadu_driver.specs.declared.refusal.Refusal.TheVariants as refusal
+use Rattle.command_reports.specs.declared.answer.Answer.{Answer}
+use Rattle.command_reports.specs.declared.answer.Answer.TheVariants.{Built, NoCommand, ReadFailed, WriteFailed, Memory, Refused}
+use Rattle.command_reports.specs.declared.refusal.Refusal.{Refusal}
+use Rattle.command_reports.specs.declared.refusal.Refusal.TheVariants as refusal
 
 -- ---- statuses
 
@@ -52,20 +53,24 @@ numbered_line word number = numbered word number ++ codes "\n"
 abbrev pub shape_line : ShapeKind → ℕ → List ℕ
 shape_line kind at = numbered (codes "shape ") (kind_number kind) ++ numbered_line (codes ": at ") at
 
+-- what there may not be too many of
+abbrev pub limit_word : LimitKind → List ℕ
+limit_word limit.Length = codes "length "
+limit_word limit.Nesting = codes "nesting "
+limit_word limit.Functions = codes "functions "
+limit_word limit.Types = codes "types "
+limit_word limit.Parameters = codes "parameters "
+limit_word limit.Variables = codes "variables "
+limit_word limit.Rows = codes "rows "
+limit_word limit.Terms = codes "terms "
+limit_word limit.Magnitude = codes "magnitude "
+limit_word limit.Places = codes "places "
+limit_word limit.Cone = codes "cone "
+limit_word limit.System = codes "system "
+
 -- a limit, and how much it allows
 abbrev pub limit_text : LimitKind → List ℕ
-limit_text limit.Length = codes "length 1048576"
-limit_text limit.Nesting = codes "nesting 64"
-limit_text limit.Functions = codes "functions 1024"
-limit_text limit.Types = codes "types 1024"
-limit_text limit.Parameters = codes "parameters 8"
-limit_text limit.Variables = codes "variables 1024"
-limit_text limit.Rows = codes "rows 512"
-limit_text limit.Terms = codes "terms 16"
-limit_text limit.Magnitude = codes "magnitude 4611686018427387903"
-limit_text limit.Places = codes "places 240"
-limit_text limit.Cone = codes "cone 64"
-limit_text limit.System = codes "system 2000"
+limit_text kind = numbered (limit_word kind) (most kind)
 
 abbrev pub limit_line : LimitKind → List ℕ
 limit_line kind = codes "limit: " ++ limit_text kind ++ codes "\n"
@@ -89,9 +94,9 @@ failure_line number at row (found.Limit kind) = limit_line kind
 failure_line number at row answer = goal_line number at row answer
 
 abbrev pub refusal_line : Refusal → List ℕ
-refusal_line refusal.Length = codes "limit: length 1048576\n"
+refusal_line refusal.Length = limit_line limit.Length
 refusal_line (refusal.Bytes at) = numbered_line (codes "bytes: at ") at
-refusal_line refusal.Nesting = codes "limit: nesting 64\n"
+refusal_line refusal.Nesting = limit_line limit.Nesting
 refusal_line (refusal.Parse at) = numbered_line (codes "parse: at ") at
 refusal_line (refusal.Shape kind at) = shape_line kind at
 refusal_line (refusal.Past kind) = limit_line kind

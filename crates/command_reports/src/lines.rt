@@ -4,19 +4,31 @@ ghost use Rattle.std.specs.Prelude.{◌≡◌, ◌≤◌, ◌+◌, ◌++◌, len
 ghost use Rattle.std.specs.Io.KnownBytes.{append_known};
 ghost use Rattle.xan_io.specs.Faults.{Rose};
 ghost use Rattle.xan_io.specs.Written.{AppendsPrefix};
-ghost use Rattle.xanadu_driver.specs.Answers as spec;
-ghost use Rattle.xanadu_driver.specs.Answers.{numbered};
+ghost use Rattle.command_reports.specs.Answers as spec;
+ghost use Rattle.command_reports.specs.Report.{Answered, report_of};
+ghost use Rattle.command_reports.specs.Said.{Says};
+ghost use Rattle.command_reports.specs.Answers.{numbered};
 
 use crate::answer::Answer;
-use crate::goal_lines::{Line, line_of_goal, push_words, word_of_limit};
+use crate::goal_lines::{Line, line_of_goal, push_limit};
 use crate::refusal::Refusal;
 use arrayvec::ArrayString;
 use itoa::Buffer;
 use xan_io::{Sink, SinkFault};
 use xan_lin::{Form, LimitKind};
 
+/// Puts the answer's line, and gives its status, or 4 where the line was not put whole.
+pub fn say<O: Sink>(out: &mut O, answer: &Answer) -> u8
+    ensures { Says (report_of (Answered answer.now)) result (O.faults out.old) (O.faults out.new) (O.written out.old) (O.written out.new) }
+{
+    match put_line(out, answer) {
+        Ok(()) => answer.status(),
+        Err(_fault) => Answer::WriteFailed.status(),
+    }
+}
+
 /// Puts the line of the answer.
-pub fn put_line<O: Sink>(out: &mut O, answer: &Answer) -> Result<(), SinkFault>
+fn put_line<O: Sink>(out: &mut O, answer: &Answer) -> Result<(), SinkFault>
     ensures appended { OnOk result (O.written out.new ≡ append_known (O.written out.old) (spec.line_of answer.now)) }
     ensures counted { OnOk result (O.faults out.new ≡ O.faults out.old) }
     ensures prefix { OnErr result (AppendsPrefix (O.written out.old) (O.written out.new) (spec.line_of answer.now)) }
@@ -50,8 +62,8 @@ fn line_of_refusal(refusal: &Refusal) -> Line
     ensures { result.bytes ≡ spec.refusal_line refusal.now }
 {
     match refusal {
-        Refusal::Length => line_of_word("limit: length 1048576\n"),
-        Refusal::Nesting => line_of_word("limit: nesting 64\n"),
+        Refusal::Length => line_of_limit(LimitKind::Length),
+        Refusal::Nesting => line_of_limit(LimitKind::Nesting),
         Refusal::Bytes(at) => line_of_number("bytes: at ", *at, "\n"),
         Refusal::Parse(at) => line_of_number("parse: at ", *at, "\n"),
         Refusal::Shape(kind, at) => {
@@ -83,7 +95,7 @@ fn line_of_limit(kind: LimitKind) -> Line
     ensures { result.bytes ≡ spec.limit_line kind }
 {
     let mut line = ArrayString::new();
-    push_words(&mut line, "limit: ", word_of_limit(kind), "\n");
+    push_limit(&mut line, "limit: ", kind);
     line
 }
 

@@ -2,7 +2,7 @@
 use Rattle.std.specs.Prelude.{ℕ, zero, suc, List, [], ◌∷◌}
 use Rattle.goal_table.specs.Unproved.{answer_to}
 use Rattle.typed_core.specs.declared.goal.GoalAt.{GoalAt}
-use Rattle.xanadu_driver.specs.Answers.{found_status, goal_line}
+use Rattle.command_reports.specs.Answers.{found_status, goal_line}
 
 -- the lines of goals, before which so many stand
 unfoldable pub goal_lines : ℕ → List GoalAt → List (List ℕ)

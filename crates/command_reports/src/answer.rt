@@ -1,7 +1,7 @@
 //! The answers of the program, and the status of each.
 
 ghost use Rattle.std.specs.Prelude.{◌≡◌};
-ghost use Rattle.xanadu_driver.specs.Answers.{status_of};
+ghost use Rattle.command_reports.specs.Answers.{status_of};
 
 use crate::refusal::Refusal;
 

@@ -1,9 +1,9 @@
 //! What a source can be refused for, and what each pass stops with.
 
 ghost use Rattle.std.specs.Prelude.{◌≡◌};
-ghost use Rattle.xanadu_driver.specs.Answers.{found_status, refusal_status};
-ghost use Rattle.xanadu_driver.specs.Stops.{of_lexer, of_parser, of_shapes, of_elaborator, of_goals};
-ghost use Rattle.xanadu_driver.specs.declared.refusal.SourceError.TheVariants.{Memory as memory};
+ghost use Rattle.command_reports.specs.Answers.{found_status, refusal_status};
+ghost use Rattle.command_reports.specs.Stops.{of_lexer, of_parser, of_shapes, of_elaborator, of_goals};
+ghost use Rattle.command_reports.specs.declared.refusal.SourceError.TheVariants.{Memory as memory};
 
 use crate::workspace::NoRoom;
 use constraint_elaborator::ElabError;
@@ -14,9 +14,6 @@ use xan_io::Memory;
 use xan_lin::{Form, LimitKind};
 use xanadu_lexer::LexError;
 use xanadu_parser::ParseError;
-
-/// The greatest length of a source in bytes.
-pub const SOURCE_MOST: u64 = 1_048_576;
 
 /// Why a source is not built, in the order in which it is looked for. Places are offsets in bytes.
 #[derive(Drop)]

@@ -8,8 +8,8 @@ use Rattle.xan_io.specs.Written.{AppendsPrefix}
 use Rattle.xan_io.proofs.Puts.{append_known-nil, append_known-twice, prefix_behind, prefix_within}
 use Rattle.goal_table.specs.Unproved.{answer_to}
 use Rattle.typed_core.specs.declared.goal.GoalAt.{GoalAt}
-use Rattle.xanadu_driver.specs.Answers.{found_status, goal_line}
-use Rattle.xanadu_driver.specs.Goals.{goal_lines, goals_status, or_later}
+use Rattle.command_reports.specs.Answers.{found_status, goal_line}
+use Rattle.command_reports.specs.Goals.{goal_lines, goals_status, or_later}
 
 abbrev line_for : ℕ → GoalAt → List ℕ
 line_for number goal = goal_line number goal.at goal.row (answer_to goal)

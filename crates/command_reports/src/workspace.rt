@@ -1,9 +1,9 @@
 //! What it takes to answer goals: made once a command, behind the limits.
 
 ghost use Rattle.std.specs.Prelude.{◌≡◌, IfOk};
-ghost use Rattle.xanadu_driver.specs.Listing.{HasPool};
+ghost use Rattle.command_reports.specs.Listing.{HasPool};
 
-use linear_solver::LineBuf;
+use linear_solver::{LineBuf, SOLVER_ROWS};
 use std::alloc::Global;
 use xan_pool::RowPool;
 
@@ -35,7 +35,7 @@ impl Workspace {
     pub fn new(alloc: Global) -> Result<Workspace, NoRoom>
         ensures { IfOk result (λ work. HasPool work.pool) }
     {
-        let pool = RowPool::new(alloc, 4001, 65)?;
+        let pool = RowPool::new(alloc, SOLVER_ROWS as usize, 65)?;
         let buf = LineBuf::new(alloc)?;
         Ok(Workspace { pool, buf })
     }

@@ -9,9 +9,9 @@ use Rattle.constraint_elaborator.specs.declared.error.ElabError.{ElabError}
 use Rattle.constraint_elaborator.specs.declared.error.ElabError.TheVariants as elab_error
 use Rattle.goal_table.specs.declared.error.GoalError.{GoalError}
 use Rattle.goal_table.specs.declared.error.GoalError.TheVariants as goal_error
-use Rattle.xanadu_driver.specs.declared.refusal.Refusal.TheVariants as refusal
-use Rattle.xanadu_driver.specs.declared.refusal.SourceError.{SourceError}
-use Rattle.xanadu_driver.specs.declared.refusal.SourceError.TheVariants as error
+use Rattle.command_reports.specs.declared.refusal.Refusal.TheVariants as refusal
+use Rattle.command_reports.specs.declared.refusal.SourceError.{SourceError}
+use Rattle.command_reports.specs.declared.refusal.SourceError.TheVariants as error
 
 abbrev pub of_lexer : LexError → SourceError
 of_lexer (lex_error.Fault at kind) = error.Refused (refusal.Bytes at)

@@ -1,6 +1,6 @@
 use Rattle.std.proofs.Common.{rules, ◌∙◌}
-use Rattle.xanadu_driver.proofs.Listings.{puts_one, puts_cut, puts_status, puts_all}
-use Rattle.xanadu_driver.proofs.listing.put_goals.Goals as goal
+use Rattle.command_reports.proofs.Listings.{puts_one, puts_cut, puts_status, puts_all}
+use Rattle.command_reports.proofs.listing.put_goals.Goals as goal
 
 pub returns-in_err-found-clause-prefix : goal.returns-in_err-found-clause-prefix
 returns-in_err-found-clause-prefix g c =

@@ -1,10 +1,11 @@
 //! The line of a goal: its number, its place, its row, and what the elimination answers. It is built in place, without memory.
 
-ghost use Rattle.std.specs.Prelude.{◌≡◌, ◌≤◌, ◌+◌, ◌*◌, ◌++◌, length};
+ghost use Rattle.std.specs.Prelude.{◌≡◌, ◌≤◌, ◌+◌, ◌*◌, ◌++◌, codes, length};
 ghost use Rattle.xan_lin.specs.Text.{number_text, term_text, terms_text, form_text};
-ghost use Rattle.xanadu_driver.specs.Answers as spec;
-ghost use Rattle.xanadu_driver.specs.Answers.{numbered, limit_text, place_text, verdict};
+ghost use Rattle.command_reports.specs.Answers as spec;
+ghost use Rattle.command_reports.specs.Answers.{numbered, limit_text, limit_word, place_text, verdict};
 
+use crate::limits::most;
 use arrayvec::ArrayString;
 use itoa::Buffer;
 use linear_solver::Answer;
@@ -101,8 +102,8 @@ fn push_number(line: &mut Line, number: &i64)
 /// Adds a word and a number behind it.
 #[tactic(auto, using(crate::proofs::LinePieces::pieces))]
 fn push_digits(line: &mut Line, word: &str, number: u128)
-    requires line { length line.old.bytes ≤ 1480 }
-    requires word { length word.now ≤ 10 }
+    requires line { length line.old.bytes ≤ 1510 }
+    requires word { length word.now ≤ 12 }
     ensures bytes { line.new.bytes ≡ line.old.bytes ++ numbered word.now number }
     ensures short { length line.new.bytes ≤ length line.old.bytes + length word.now + 40 }
 {
@@ -119,41 +120,39 @@ fn push_verdict(line: &mut Line, found: Answer)
     match found {
         Answer::Proved => line.push_str("proved\n"),
         Answer::Unproved => line.push_str("not proved\n"),
-        Answer::Limit(kind) => push_words(line, "limit ", word_of_limit(kind), "\n"),
+        Answer::Limit(kind) => push_limit(line, "limit ", kind),
     }
 }
 
-/// Adds three words.
+/// Adds a word, a limit, how much it allows, and the end of the line.
 #[tactic(auto, using(crate::proofs::LinePieces::pieces))]
-pub fn push_words(line: &mut Line, first: &str, second: &str, third: &str)
+pub fn push_limit(line: &mut Line, before: &str, kind: LimitKind)
     requires line { length line.old.bytes ≤ 1500 }
-    requires first { length first.now ≤ 30 }
-    requires second { length second.now ≤ 30 }
-    requires third { length third.now ≤ 30 }
-    ensures { line.new.bytes ≡ line.old.bytes ++ (first.now ++ second.now ++ third.now) }
+    requires before { length before.now ≤ 10 }
+    ensures { line.new.bytes ≡ line.old.bytes ++ (before.now ++ limit_text kind ++ codes "\n") }
 {
-    line.push_str(first);
-    line.push_str(second);
-    line.push_str(third);
+    line.push_str(before);
+    push_digits(line, word_of_limit(kind), u128::from(most(kind)));
+    line.push_str("\n");
 }
 
-/// A limit, and how much it allows.
-pub fn word_of_limit(kind: LimitKind) -> &'static str
-    ensures word { result.now ≡ limit_text kind }
-    ensures short { length result.now ≤ 30 }
+/// What there may not be too many of.
+fn word_of_limit(kind: LimitKind) -> &'static str
+    ensures word { result.now ≡ limit_word kind }
+    ensures short { length result.now ≤ 12 }
 {
     match kind {
-        LimitKind::Length => "length 1048576",
-        LimitKind::Nesting => "nesting 64",
-        LimitKind::Functions => "functions 1024",
-        LimitKind::Types => "types 1024",
-        LimitKind::Parameters => "parameters 8",
-        LimitKind::Variables => "variables 1024",
-        LimitKind::Rows => "rows 512",
-        LimitKind::Terms => "terms 16",
-        LimitKind::Magnitude => "magnitude 4611686018427387903",
-        LimitKind::Places => "places 240",
-        LimitKind::Cone => "cone 64",
-        LimitKind::System => "system 2000",
+        LimitKind::Length => "length ",
+        LimitKind::Nesting => "nesting ",
+        LimitKind::Functions => "functions ",
+        LimitKind::Types => "types ",
+        LimitKind::Parameters => "parameters ",
+        LimitKind::Variables => "variables ",
+        LimitKind::Rows => "rows ",
+        LimitKind::Terms => "terms ",
+        LimitKind::Magnitude => "magnitude ",
+        LimitKind::Places => "places ",
+        LimitKind::Cone => "cone ",
+        LimitKind::System => "system ",
     }
 }

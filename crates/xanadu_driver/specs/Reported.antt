@@ -1,29 +1,14 @@
 -- What the program reports of a command.
-use Rattle.std.specs.Prelude.{ℕ, List, [], ◌∷◌, length, Option, Some, None, option_map, Result, Ok, Err}
+use Rattle.std.specs.Prelude.{ℕ, List, length, Option, Some, None, option_map, Result, Ok, Err}
 use Rattle.dtal_code.specs.declared.straight.Straight.{Straight}
 use Rattle.typed_core.specs.declared.goal.GoalAt.{GoalAt}
-use Rattle.xanadu_driver.specs.declared.answer.Answer.{Answer}
-use Rattle.xanadu_driver.specs.declared.answer.Answer.TheVariants as answer
-use Rattle.xanadu_driver.specs.declared.refusal.SourceError.{SourceError}
-use Rattle.xanadu_driver.specs.declared.refusal.SourceError.TheVariants as error
-use Rattle.xanadu_driver.specs.Answers.{status_of, line_of}
+use Rattle.command_reports.specs.declared.answer.Answer.{Answer}
+use Rattle.command_reports.specs.declared.answer.Answer.TheVariants as answer
+use Rattle.command_reports.specs.declared.refusal.SourceError.{SourceError}
+use Rattle.command_reports.specs.declared.refusal.SourceError.TheVariants as error
+use Rattle.command_reports.specs.Report.{Report, Found, Answered, Listed, report_of}
+use Rattle.command_reports.specs.Words.{Meant, Build, Goals}
 use Rattle.xanadu_driver.specs.Fate.{fate, goals_of}
-use Rattle.xanadu_driver.specs.Goals.{goal_lines, goals_status}
-use Rattle.xanadu_driver.specs.Words.{Meant, Build, Goals}
-
--- lines for the output, and the status to end with
-pub record Report : Type 0 where
-  pub lines : List (List ℕ)
-  pub status : ℕ
-
--- what a command comes to, before it is said: an answer of one line, or goals to be listed
-pub data Found : Type 0 where
-  Answered : Answer → Found
-  Listed : List GoalAt → Found
-
-abbrev pub report_of : Found → Report
-report_of (Answered answer) = record { lines = line_of answer ∷ []; status = status_of answer }
-report_of (Listed goals) = record { lines = goal_lines 0 goals; status = goals_status goals }
 
 abbrev pub stopped : SourceError → Answer
 stopped (error.Refused refusal) = answer.Refused refusal

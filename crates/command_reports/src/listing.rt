@@ -6,11 +6,11 @@ ghost use Rattle.std.specs.Io.KnownBytes.{append_known};
 ghost use Rattle.xan_io.specs.Faults.{Rose};
 ghost use Rattle.xan_io.specs.Written.{AppendsPrefix};
 ghost use Rattle.goal_table.specs.Unproved.{answer_to};
-ghost use Rattle.xanadu_driver.specs.Answers.{found_status, goal_line};
-ghost use Rattle.xanadu_driver.specs.Causes.{Says};
-ghost use Rattle.xanadu_driver.specs.Goals.{goal_lines, goals_status, or_later};
-ghost use Rattle.xanadu_driver.specs.Listing.{HasPool, HasRoom};
-ghost use Rattle.xanadu_driver.specs.Report.{Listed, report_of};
+ghost use Rattle.command_reports.specs.Answers.{found_status, goal_line};
+ghost use Rattle.command_reports.specs.Said.{Says};
+ghost use Rattle.command_reports.specs.Goals.{goal_lines, goals_status, or_later};
+ghost use Rattle.command_reports.specs.Listing.{HasPool, HasRoom};
+ghost use Rattle.command_reports.specs.Report.{Listed, report_of};
 
 use crate::answer::Answer;
 use crate::goal_lines::line_of_goal;

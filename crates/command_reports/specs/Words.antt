@@ -3,8 +3,8 @@ use Rattle.std.specs.Prelude.{ℕ, ◌&&◌, List, [], ◌∷◌, codes, Option,
 use Rattle.std.specs.Borrow.{Bor}
 use Rattle.std.specs.Str.{bytes_eq}
 use Rattle.xan_io.specs.Words.{texts, is_value}
-use Rattle.xanadu_driver.specs.declared.words.Command.{Command}
-use Rattle.xanadu_driver.specs.declared.words.Command.TheVariants as command
+use Rattle.command_reports.specs.declared.words.Command.{Command}
+use Rattle.command_reports.specs.declared.words.Command.TheVariants as command
 
 -- to build the source of one name into the text of another, or to list the goals of a source
 pub data Meant : Type 0 where

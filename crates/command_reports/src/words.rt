@@ -2,7 +2,7 @@
 
 ghost use Rattle.std.specs.Prelude.{◌≡◌};
 ghost use Rattle.std.specs.Option.{option_map};
-ghost use Rattle.xanadu_driver.specs.Words.{commanded, view};
+ghost use Rattle.command_reports.specs.Words.{commanded, view};
 
 use xan_io::is_value;
 

@@ -1,6 +1,6 @@
 use Rattle.std.proofs.Common.{◌≡◌, ◌+◌, ◌*◌, ◌≤◌, ◌++◌, length, drop}
 use Rattle.xan_lin.specs.Text.{terms_text}
-use Rattle.xanadu_driver.proofs.goal_lines.push_terms.Given as goal
+use Rattle.command_reports.proofs.goal_lines.push_terms.Given as goal
 
 abbrev pub invariant-loop-term : goal.invariant-loop-term
 invariant-loop-term l =

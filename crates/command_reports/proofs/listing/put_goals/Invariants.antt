@@ -1,7 +1,7 @@
 use Rattle.std.proofs.Common.{◌≡◌}
-use Rattle.xanadu_driver.specs.Listing.{HasPool}
-use Rattle.xanadu_driver.proofs.Listings.{Puts}
-use Rattle.xanadu_driver.proofs.listing.put_goals.Given as goal
+use Rattle.command_reports.specs.Listing.{HasPool}
+use Rattle.command_reports.proofs.Listings.{Puts}
+use Rattle.command_reports.proofs.listing.put_goals.Given as goal
 
 abbrev pub invariant-goals : goal.invariant-goals
 invariant-goals g l = record {
