@@ -1,0 +1,4 @@
+pub mod CarriedLoops
+pub mod RowsPushed
+pub mod BranchesCarried
+pub mod CarriedWhole
