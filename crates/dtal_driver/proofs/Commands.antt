@@ -1,64 +1,59 @@
 -- What comes of a command, from what came of its parts.
-use Rattle.std.proofs.Common.{◌≡◌, ◌≢◌, ◌∙◌, inl, inr, ℕ, ◌<◌, ◌≤◌, lit<, List, [], length, Option, None, Some, Result, Ok, Err, refl, sym, ap, subst, arith}
+use Rattle.std.proofs.Common.{◌≡◌, ◌≢◌, ◌∙◌, inl, inr, ℕ, List, [], Option, None, Some, Result, Ok, Err, refl, sym, ap, subst}
 use Rattle.std.specs.Prelude.{option_map, IfOk, IfErr}
 use Rattle.std.specs.Io.KnownBytes.{append_known}
 use Rattle.xan_io.specs.declared.arg.Arg.{Arg}
-use Rattle.xan_io.specs.Entry.{EntryFault, unless_faulty}
+use Rattle.xan_io.specs.Entry.{EntryFault}
 use Rattle.xan_io.specs.Entry as fault
 use Rattle.xan_io.specs.Faults.{Rose}
 use Rattle.xan_io.specs.Outcome.{How, Outcome}
 use Rattle.xan_io.specs.Outcome as how
 use Rattle.xan_io.specs.Written.{AppendsPrefix}
 use Rattle.xan_io.proofs.Puts.{append_known-twice, prefix_behind, prefix_within}
-use Rattle.dtal_code.specs.declared.straight.Straight.{Straight}
-use Rattle.dtal_code.specs.Machine.{State}
-use Rattle.dtal_code.specs.Entry.{straight_fault, entry_state, straight_entry}
-use Rattle.dtal_machine.specs.Ending.{HasEnded, RunEnds}
-use Rattle.dtal_machine.specs.declared.loading.LoadError.{LoadError}
-use Rattle.dtal_machine.specs.declared.loading.LoadError.TheVariants as load
-use Rattle.dtal_machine.specs.Loading.{fault_error, begins, loaded, IsRunOf}
-use Rattle.dtal_machine.specs.Steps.{Loaded, run_on}
-use Rattle.dtal_machine.specs.Typing.{IsAccepted}
 use Rattle.dtal_code.specs.declared.program.DtalProgram.{DtalProgram}
 use Rattle.dtal_code.specs.declared.refusal.Where.{Where}
 use Rattle.dtal_code.specs.declared.refusal.Rule.{Rule}
+use Rattle.dtal_code.specs.Machine.{State}
+use Rattle.dtal_code.specs.ObjectCode.{Code, code_of}
+use Rattle.dtal_code.specs.Runs.{program_entry, outcome_from}
+use Rattle.dtal_code.specs.Safety.{IsSafeRun, RunsSafely}
 use Rattle.dtal_code.proofs.VerifiedPrograms.{accepted_is_verified}
-use Rattle.dtal_machine.proofs.MachineSteps.{run-begins, run-live}
-use Rattle.dtal_machine.proofs.Runs.{accepted-ends}
+use Rattle.object_machine.specs.declared.loading.LoadError.{LoadError}
+use Rattle.object_machine.specs.declared.loading.LoadError.TheVariants as load
+use Rattle.object_machine.specs.Loading.{fault_error, begins, loaded, Loads, IsRunOf}
+use Rattle.object_machine.specs.Steps.{Loaded, run_on}
+use Rattle.object_machine.proofs.DrivenMachines.{run-begins, run-live}
 use Rattle.dtal_driver.specs.declared.answer.Answer.{Answer}
 use Rattle.dtal_driver.specs.declared.answer.Answer.TheVariants as answer
+use Rattle.dtal_driver.specs.declared.options.Limits.{Limits}
 use Rattle.dtal_driver.specs.declared.run.End.{End}
 use Rattle.dtal_driver.specs.declared.run.End.TheVariants as ends
 use Rattle.dtal_driver.specs.Answers.{line_of, number_lines}
-use Rattle.dtal_driver.specs.Causes.{IsRefusedProgram, IsVerified, IsDenied, Accepts, IsRefusedText, Refuses, IsLoaded, HasFault, IsFaulty, IsLoadedFrom, IsOfText, Cause, NoCommand, ReadFailed, Memory, Told, Says, Went, RunSaid}
-use Rattle.dtal_driver.specs.Report.{Report, plain, heap, depth, steps, end_of, how_of, answer_of, ended, unless_refused, fault_answer, run_report, accepted_report, ReportsOf}
-use Rattle.dtal_driver.specs.Stops.{rule_of}
-use Rattle.dtal_driver.specs.VerifiedTexts.{accepted_answer, judged, Judges, TooLong, NoProgram, OfProgram}
+use Rattle.dtal_driver.specs.Causes.{IsRefusedProgram, IsVerified, IsDenied, IsLoaded, IsUnbegun, IsNotLoaded, IsLoadedFrom, IsOfText, Cause, NoCommand, ReadFailed, Memory, Told, Says, Went, RunSaid}
+use Rattle.dtal_driver.specs.Report.{Report, plain, end_of, how_of, answer_of, ended, fault_answer, run_report, accepted_report, program_report, Reports, TooLong, NoProgram, OfProgram}
+use Rattle.dtal_driver.specs.Stops.{of_load}
+use Rattle.dtal_driver.specs.VerifiedTexts.{accepted_answer}
 use Rattle.dtal_driver.specs.Words.{Meant, Verify, Run, text_of}
 
--- ---- a text that is verified
+-- ---- a text
 
-module _ (content : List ℕ → Option (List ℕ)) (text : List ℕ) (reads reads' : List ℕ → ℕ) where
-  -- what is said of its bytes
-  judges-cause : (said : Answer) → IsOfText said → ((bytes : List ℕ) → content text ≡ Some bytes → Judges bytes said) → Cause (Some (Verify text)) content reads reads' (plain said)
-  judges-cause said of_text judges = Told (record {
-    command = Verify text;
-    is = refl;
-    of_text = of_text;
-    told = λ bytes here. record { said = said; judges = judges bytes here; is = refl };
-  })
+module _ (content : List ℕ → Option (List ℕ)) (command : Meant) (reads reads' : List ℕ → ℕ) where
+  -- what is reported of its bytes
+  told-cause : (said : Answer) → IsOfText said → ((bytes : List ℕ) → content (text_of command) ≡ Some bytes → Reports command bytes (plain said))
+      → Cause (Some command) content reads reads' (plain said)
+  told-cause said of_text reports = Told (record { command = command; is = refl; of_text = of_text; told = reports })
 
-  of_denied : (bytes : List ℕ) (at : Where) (rule : Rule) → IsRefusedProgram bytes at rule → Judges bytes (answer.Refused at rule)
-  of_denied bytes at rule r = OfProgram r.text.short r.program r.text.spells (sym (ap (judged r.program) r.refused))
+  of_refused : (bytes : List ℕ) (at : Where) (rule : Rule) → IsRefusedProgram bytes at rule → Reports command bytes (plain (answer.Refused at rule))
+  of_refused bytes at rule r = OfProgram r.text.short r.program r.text.spells (ap (program_report command r.program) r.refused)
 
   -- an answer in place of an accepted program
-  pub denied-cause : (said : Answer) → IsDenied (content text) (reads text) (reads' text) said → Cause (Some (Verify text)) content reads reads' (plain said)
-  denied-cause answer.ReadFailed r = ReadFailed (record { command = Verify text; is = refl; rose = r }) refl
+  pub denied-cause : (said : Answer) → IsDenied (content (text_of command)) (reads (text_of command)) (reads' (text_of command)) said
+      → Cause (Some command) content reads reads' (plain said)
+  denied-cause answer.ReadFailed r = ReadFailed (record { command = command; is = refl; rose = r }) refl
   denied-cause answer.Memory r = Memory refl
-  denied-cause answer.TooLong r = judges-cause answer.TooLong tt (λ bytes here. TooLong (r bytes here) refl)
-  denied-cause (answer.NoProgram at) r = judges-cause (answer.NoProgram at) tt (λ bytes here. (let none = r bytes here in NoProgram none.short at none.longest refl))
-  denied-cause (answer.Refused at rule) r = judges-cause (answer.Refused at rule) tt (λ bytes here. of_denied bytes at rule (r bytes here))
-  denied-cause answer.NotBuilt r = absurd r
+  denied-cause answer.TooLong r = told-cause answer.TooLong tt (λ bytes here. TooLong (r bytes here) refl)
+  denied-cause (answer.NoProgram at) r = told-cause (answer.NoProgram at) tt (λ bytes here. (let none = r bytes here in NoProgram none.short at none.longest refl))
+  denied-cause (answer.Refused at rule) r = told-cause (answer.Refused at rule) tt (λ bytes here. of_refused bytes at rule (r bytes here))
   denied-cause answer.NoCommand r = absurd r
   denied-cause (answer.Accepted f n) r = absurd r
   denied-cause answer.ArgCount r = absurd r
@@ -66,41 +61,49 @@ module _ (content : List ℕ → Option (List ℕ)) (text : List ℕ) (reads rea
   denied-cause (answer.ArgIndex n) r = absurd r
   denied-cause (answer.EntryRow n) r = absurd r
   denied-cause (answer.Returned word) r = absurd r
+  denied-cause answer.NoStore r = absurd r
   denied-cause answer.Overflow r = absurd r
+  denied-cause (answer.StepsEnded n) r = absurd r
 
-  pub verified-cause : (program : DtalProgram) (said : Answer) → IsVerified (content text) program → said ≡ accepted_answer program → Cause (Some (Verify text)) content reads reads' (plain said)
-  verified-cause program said v is =
-      judges-cause said (subst IsOfText (sym is) tt)
-      (λ bytes here. (let t = v.told bytes here in OfProgram t.short program t.spells (is ∙ sym (ap (judged program) (accepted_is_verified program v.accepted)))))
+  module _ (program : DtalProgram) (v : IsVerified (content (text_of command)) program) where
+    -- what is reported of an accepted program is reported of its text
+    of_accepted : (bytes : List ℕ) (report : Report) → content (text_of command) ≡ Some bytes → accepted_report command program ≡ Some report → Reports command bytes report
+    of_accepted bytes report here is =
+        let t = v.told bytes here in
+        OfProgram t.short program t.spells (ap (program_report command program) (accepted_is_verified program v.accepted) ∙ is)
 
--- ---- a straight text
+    accepted-cause : (said : Answer) → IsOfText said → accepted_report command program ≡ Some (plain said) → Cause (Some command) content reads reads' (plain said)
+    accepted-cause said of_text is = told-cause said of_text (λ bytes here. of_accepted bytes (plain said) here is)
 
-of_refused : (args : List Arg) (bytes : List ℕ) (at : Where) (rule : Rule) → IsRefusedText bytes at rule → ReportsOf args bytes (plain (answer.Refused at rule))
-of_refused args bytes at rule r = record {
-  program = r.program;
-  text = r.text;
-  is = ap (λ refused. unless_refused refused (accepted_report args r.program)) r.refused
-      ∙ ap (λ (place : Where). Some (plain (answer.Refused place (rule_of r.broken)))) (sym r.at_is) ∙ ap (λ (broken : Rule). Some (plain (answer.Refused at broken))) (sym r.rule_is);
-}
+pub verified-cause : (content : List ℕ → Option (List ℕ)) (text : List ℕ) (reads reads' : List ℕ → ℕ) (program : DtalProgram) (said : Answer) → IsVerified (content text) program
+    → said ≡ accepted_answer program → Cause (Some (Verify text)) content reads reads' (plain said)
+verified-cause content text reads reads' program said v is =
+    accepted-cause content (Verify text) reads reads' program v said (subst IsOfText (sym is) tt) (ap (λ a. Some (plain a)) (sym is))
 
--- an answer in place of an accepted program
-module _ (text : List ℕ) (args : List Arg) (content : List ℕ → Option (List ℕ)) (reads reads' : List ℕ → ℕ) where
-  pub refuses-cause : (said : Answer) → Refuses (content text) (reads text) (reads' text) said → Cause (Some (Run text args)) content reads reads' (plain said)
-  refuses-cause answer.ReadFailed r = ReadFailed (record { command = Run text args; is = refl; rose = r }) refl
-  refuses-cause answer.Memory r = Memory refl
-  refuses-cause answer.NotBuilt r = Told (record { command = Run text args; is = refl; of_text = tt; told = λ bytes here. inl (r bytes here, refl) })
-  refuses-cause (answer.Refused at rule) r =
-      Told (record { command = Run text args; is = refl; of_text = tt; told = λ bytes here. inr (of_refused args bytes at rule (r bytes here)) })
-  refuses-cause answer.TooLong r = absurd r
-  refuses-cause (answer.NoProgram at) r = absurd r
-  refuses-cause answer.NoCommand r = absurd r
-  refuses-cause (answer.Accepted f n) r = absurd r
-  refuses-cause answer.ArgCount r = absurd r
-  refuses-cause (answer.ArgKind n) r = absurd r
-  refuses-cause (answer.ArgIndex n) r = absurd r
-  refuses-cause (answer.EntryRow n) r = absurd r
-  refuses-cause (answer.Returned word) r = absurd r
-  refuses-cause answer.Overflow r = absurd r
+-- ---- the start of a run
+
+module _ (content : List ℕ → Option (List ℕ)) (text : List ℕ) (limits : Limits) (args : List Arg) (program : DtalProgram) (v : IsVerified (content text) program) where
+  pub not_loaded-cause : (reads reads' : List ℕ → ℕ) (said : Answer) → IsNotLoaded program limits args said → Cause (Some (Run text limits args)) content reads reads' (plain said)
+  not_loaded-cause reads reads' said (inl memory) = Memory (ap plain memory)
+  not_loaded-cause reads reads' said (inr unbegun) = accepted-cause content (Run text limits args) reads reads' program v said unbegun.of_text unbegun.is
+
+  pub loaded-from : (machine : Loaded) → IsLoaded program limits args machine → IsLoadedFrom text limits args (content text) machine
+  loaded-from machine loads = record {
+    live = loads.live;
+    goes = loads.goes;
+    told = λ bytes here report is.
+        of_accepted content (Run text limits args) (λ _. 0) (λ _. 0) program v bytes report here
+        (ap (run_report (code_of program) limits.steps) loads.run.begins ∙ ap (ended limits.steps) loads.run.is ∙ is);
+  }
+
+-- ---- a machine
+
+-- the run is not stuck, since no run of the program is
+goes_as : (program : DtalProgram) (args : List Arg) (heap depth steps : ℕ) (outcome : Outcome) → IsRunOf program args heap depth steps outcome
+    → RunsSafely (code_of program) (program_entry program args heap depth) steps → outcome.how ≢ how.Stuck
+goes_as program args heap depth steps outcome run safely =
+    let safe : IsSafeRun (code_of program) run.entry steps = subst (λ entry. RunsSafely (code_of program) entry steps) run.begins safely in
+    subst (λ (o : Outcome). o.how ≢ how.Stuck) run.is safe.not_stuck
 
 fault-of_text : (fault : EntryFault) → IsOfText (fault_answer fault)
 fault-of_text fault.ArgCount = tt
@@ -108,163 +111,115 @@ fault-of_text (fault.ArgKind argument) = tt
 fault-of_text (fault.ArgIndex argument) = tt
 fault-of_text (fault.EntryRow row) = tt
 
-module _ (content : List ℕ → Option (List ℕ)) (text : List ℕ) (program : Straight) (accepts : Accepts (content text) program) where
-  -- the report of an accepted program is that of its text
-  of_accepted : (args : List Arg) (bytes : List ℕ) (report : Report) → content text ≡ Some bytes → accepted_report args program ≡ Some report → ReportsOf args bytes report
-  of_accepted args bytes report here is =
-      let a = accepts.told bytes here in
+fault-answered : (fault : EntryFault) → of_load (fault_error fault) ≡ fault_answer fault
+fault-answered fault.ArgCount = refl
+fault-answered (fault.ArgKind argument) = refl
+fault-answered (fault.ArgIndex argument) = refl
+fault-answered (fault.EntryRow row) = refl
+
+without_store : (code : Code) (steps : ℕ) → run_report code steps (Ok None) ≡ Some (plain answer.NoStore)
+unfolding outcome_from
+without_store code steps = refl
+
+module _ (program : DtalProgram) (limits : Limits) (args : List Arg) where
+  pub loads : RunsSafely (code_of program) (program_entry program args limits.heap limits.depth) limits.steps → (machine : Loaded)
+      → loaded program args limits.heap limits.depth ≡ Ok machine → IsLoaded program limits args machine
+  loads safely machine e =
+      let run = run-begins program args limits.heap limits.depth limits.steps machine e in
       record {
-        program = program;
-        text = a.text;
-        is = ap (λ refused. unless_refused refused (accepted_report args program)) a.not_refused ∙ is;
+        live = run-live program args limits.heap limits.depth machine e;
+        goes = goes_as program args limits.heap limits.depth limits.steps _ run safely;
+        run = run;
       }
 
-  module _ (args : List Arg) where
-    pub faulty-cause : (reads reads' : List ℕ → ℕ) (said : Answer) → IsFaulty program args said → Cause (Some (Run text args)) content reads reads' (plain said)
-    faulty-cause reads reads' said (inl memory) = Memory (ap plain memory)
-    faulty-cause reads reads' said (inr fault) = Told (record {
-      command = Run text args;
-      is = refl;
-      of_text = subst IsOfText (sym fault.is) (fault-of_text fault.fault);
-      told = λ bytes here.
-          inr (of_accepted args bytes (plain said) here (ap (run_report program.code) fault.found ∙ ap (λ a. Some (plain a)) (sym fault.is)));
-    })
+  unbegun-from : (entry : Result (Option State) EntryFault) (error : LoadError) → program_entry program args limits.heap limits.depth ≡ entry
+      → begins (code_of program) entry ≡ Err error → IsUnbegun program limits args (of_load error)
+  unbegun-from (Ok None) error is e =
+      let same : load.NoStore ≡ error = cc in
+      subst (λ error'. IsUnbegun program limits args (of_load error')) same
+      (record { of_text = tt; is = ap (run_report (code_of program) limits.steps) is ∙ without_store (code_of program) limits.steps })
+  unbegun-from (Ok (Some state)) error is e = cc
+  unbegun-from (Err fault) error is e =
+      let same : fault_error fault ≡ error = cc in
+      let answered : fault_answer fault ≡ of_load error = sym (fault-answered fault) ∙ ap of_load same in
+      subst (IsUnbegun program limits args) answered
+      (record { of_text = fault-of_text fault; is = ap (run_report (code_of program) limits.steps) is })
 
-    pub loaded-from : (machine : Loaded) → IsLoaded program args machine → IsLoadedFrom text args (content text) machine
-    loaded-from machine loads = record {
-      live = loads.live;
-      ends = loads.ends;
-      told = λ bytes here report is.
-          inr
-          (of_accepted args bytes report here
-          (ap (run_report program.code) loads.run.begins ∙ ap ended loads.run.is ∙ is));
-    }
-
--- ---- a machine
-
--- the run ends as the program's does
-ends_as : (program : Straight) (args : List Arg) (outcome : Outcome) → IsRunOf program args heap depth steps outcome
-    → RunEnds program.code (straight_entry program args heap depth) steps → HasEnded outcome.how
-ends_as program args outcome run ends =
-    let ended : RunEnds program.code (Ok run.entry) steps = subst (λ entry. RunEnds program.code entry steps) run.begins ends in
-    subst (λ (o : Outcome). HasEnded o.how) run.is ended
-
-pub loads : (program : Straight) (args : List Arg) (machine : Loaded) → IsAccepted program → length program.code ≤ 1000
-    → loaded program args heap depth ≡ Ok machine → IsLoaded program args machine
-loads program args machine accepted few e =
-    let run = run-begins program args heap depth steps machine e in
-    let some : 0 < depth = lit< tt in
-    let long : length program.code ≤ steps = omega (arith, few) in
-    record {
-      live = run-live program args heap depth machine e;
-      ends = ends_as program args _ run (accepted-ends program args heap depth steps accepted some long);
-      run = run;
-    }
-
--- what is answered of an error
-abbrev error_answer : LoadError → Answer
-error_answer load.ArgCount = answer.ArgCount
-error_answer (load.ArgKind argument) = answer.ArgKind argument
-error_answer (load.ArgIndex argument) = answer.ArgIndex argument
-error_answer (load.EntryRow row) = answer.EntryRow row
-error_answer load.NoStore = answer.Memory
-error_answer load.Memory = answer.Memory
-
-fault_error-answer : (fault : EntryFault) → error_answer (fault_error fault) ≡ fault_answer fault
-fault_error-answer fault.ArgCount = refl
-fault_error-answer (fault.ArgKind argument) = refl
-fault_error-answer (fault.ArgIndex argument) = refl
-fault_error-answer (fault.EntryRow row) = refl
-
-fault_error-no_store : (fault : EntryFault) → fault_error fault ≡ load.NoStore → ⊥
-fault_error-no_store fault.ArgCount e = cc
-fault_error-no_store (fault.ArgKind argument) e = cc
-fault_error-no_store (fault.ArgIndex argument) e = cc
-fault_error-no_store (fault.EntryRow row) e = cc
-
-faulty-from : (program : Straight) (args : List Arg) (entry : Result (Option State) EntryFault) (error : LoadError) → straight_entry program args heap depth ≡ entry
-    → begins program entry ≡ Err error → error ≢ load.NoStore → HasFault program args (error_answer error)
-faulty-from program args (Ok None) error is e other = let clash : load.NoStore ≡ error = cc in absurd (other (sym clash))
-faulty-from program args (Ok (Some state)) error is e other = cc
-faulty-from program args (Err fault) error is e other =
-    let same : fault_error fault ≡ error = cc in
-    record { fault = fault; found = is; is = ap error_answer (sym same) ∙ fault_error-answer fault }
-
--- an error of a load that is no want of an activation is the fault of the arguments
-pub faulty : (program : Straight) (args : List Arg) (error : LoadError) → loaded program args heap depth ≡ Err error → error ≢ load.NoStore
-    → IsFaulty program args (error_answer error)
-faulty program args error e other = inr (faulty-from program args (straight_entry program args heap depth) error refl e other)
-
-has_store-from : (program : Straight) (args : List Arg) (found : Option EntryFault) → begins program (unless_faulty found (entry_state args heap depth)) ≡ Err load.NoStore → ⊥
-has_store-from program args None e = cc
-has_store-from program args (Some fault) e = let same : fault_error fault ≡ load.NoStore = cc in fault_error-no_store fault same
-
--- there may be activations
-pub has_store : (program : Straight) (args : List Arg) → loaded program args heap depth ≡ Err load.NoStore → ⊥
-has_store program args e = has_store-from program args (straight_fault program args) e
+  -- an error of a load is the fault of the arguments, or that there is no store for them, or memory ran out
+  pub not_loaded : (error : LoadError) → Loads (loaded program args limits.heap limits.depth) (Err error) → IsNotLoaded program limits args (of_load error)
+  not_loaded load.ArgCount e = inr (unbegun-from _ load.ArgCount refl e)
+  not_loaded (load.ArgKind argument) e = inr (unbegun-from _ (load.ArgKind argument) refl e)
+  not_loaded (load.ArgIndex argument) e = inr (unbegun-from _ (load.ArgIndex argument) refl e)
+  not_loaded (load.EntryRow row) e = inr (unbegun-from _ (load.EntryRow row) refl e)
+  not_loaded load.NoStore e = inr (unbegun-from _ load.NoStore refl e)
+  not_loaded load.Memory e = inl refl
 
 -- ---- a run
 
 end_of-how : (end : End) → end_of (how_of end) ≡ Some end
 end_of-how (ends.Returned word) = refl
+end_of-how ends.NoStore = refl
 end_of-how ends.Overflow = refl
+end_of-how ends.Spent = refl
 
-end-of_text : (end : End) → IsOfText (answer_of end)
-end-of_text (ends.Returned word) = tt
-end-of_text ends.Overflow = tt
+end-of_text : (steps : ℕ) (end : End) → IsOfText (answer_of steps end)
+end-of_text steps (ends.Returned word) = tt
+end-of_text steps ends.NoStore = tt
+end-of_text steps ends.Overflow = tt
+end-of_text steps ends.Spent = tt
 
-end_is : (how : How) → HasEnded how → (end : End) × (how ≡ how_of end)
-end_is (how.Returned word) ended = (ends.Returned word, refl)
-end_is how.Overflow ended = (ends.Overflow, refl)
-end_is how.NoStore ended = absurd ended
-end_is how.Stuck ended = absurd ended
-end_is how.Running ended = absurd ended
+end_is : (found : How) → found ≢ how.Stuck → (end : End) × (found ≡ how_of end)
+end_is (how.Returned word) goes = (ends.Returned word, refl)
+end_is how.NoStore goes = (ends.NoStore, refl)
+end_is how.Overflow goes = (ends.Overflow, refl)
+end_is how.Stuck goes = absurd (goes refl)
+end_is how.Running goes = (ends.Spent, refl)
 
-abbrev report_of_end : Outcome → End → Report
-report_of_end outcome end = record { printed = outcome.printed; answer = answer_of end }
+abbrev report_of_end : (steps : ℕ) → Outcome → End → Report
+report_of_end steps outcome end = record { printed = outcome.printed; answer = answer_of steps end }
 
-ended-report : (outcome : Outcome) (end : End) → outcome.how ≡ how_of end → ended outcome ≡ Some (report_of_end outcome end)
-ended-report outcome end e = ap (λ o. option_map (report_of_end outcome) o) (ap end_of e ∙ end_of-how end)
+ended-report : (steps : ℕ) (outcome : Outcome) (end : End) → outcome.how ≡ how_of end → ended steps outcome ≡ Some (report_of_end steps outcome end)
+ended-report steps outcome end e = ap (λ o. option_map (report_of_end steps outcome) o) (ap end_of e ∙ end_of-how end)
 
-module _ (outcome : Outcome) (out mid out' : Option (List ℕ)) (status faults faults' : ℕ) where
+module _ (steps : ℕ) (outcome : Outcome) (out mid out' : Option (List ℕ)) (status faults faults' : ℕ) where
   -- the numbers are put, and then this of the line of the end
   pub run-said : (end : End) (between : ℕ) → outcome.how ≡ how_of end → mid ≡ append_known out (number_lines outcome.printed) → between ≡ faults
-      → Says (plain (answer_of end)) status between faults' mid out' → RunSaid outcome status faults faults' out out'
+      → Says (plain (answer_of steps end)) status between faults' mid out' → RunSaid steps outcome status faults faults' out out'
   run-said end between is numbers counted (inl all) = record {
-    report = report_of_end outcome end;
-    is = ended-report outcome end is;
-    of_text = end-of_text end;
+    report = report_of_end steps outcome end;
+    is = ended-report steps outcome end is;
+    of_text = end-of_text steps end;
     said = inl
         (record {
           status_is = all.status_is;
-          said = all.said ∙ ap (λ told. append_known told (line_of (answer_of end))) numbers
-              ∙ append_known-twice out (number_lines outcome.printed) (line_of (answer_of end));
+          said = all.said ∙ ap (λ told. append_known told (line_of (answer_of steps end))) numbers
+              ∙ append_known-twice out (number_lines outcome.printed) (line_of (answer_of steps end));
           counted = all.counted ∙ counted;
         });
   }
   run-said end between is numbers counted (inr part) = record {
-    report = report_of_end outcome end;
-    is = ended-report outcome end is;
-    of_text = end-of_text end;
+    report = report_of_end steps outcome end;
+    is = ended-report steps outcome end is;
+    of_text = end-of_text steps end;
     said = inr
         (record {
           status_is = part.status_is;
-          part = prefix_behind out out' (number_lines outcome.printed) (line_of (answer_of end))
-              (subst (λ told. AppendsPrefix told out' (line_of (answer_of end))) numbers part.part);
+          part = prefix_behind out out' (number_lines outcome.printed) (line_of (answer_of steps end))
+              (subst (λ told. AppendsPrefix told out' (line_of (answer_of steps end))) numbers part.part);
           rose = subst (λ n. Rose n faults') counted part.rose;
         });
   }
 
   -- only a part of the numbers is put
-  pub run-cut : HasEnded outcome.how → status ≡ 4 → AppendsPrefix out out' (number_lines outcome.printed) → Rose faults faults'
-      → RunSaid outcome status faults faults' out out'
-  run-cut over four part rose =
-      let end = end_is outcome.how over in
+  pub run-cut : outcome.how ≢ how.Stuck → status ≡ 4 → AppendsPrefix out out' (number_lines outcome.printed) → Rose faults faults'
+      → RunSaid steps outcome status faults faults' out out'
+  run-cut goes four part rose =
+      let end = end_is outcome.how goes in
       record {
-        report = report_of_end outcome end.0;
-        is = ended-report outcome end.0 end.1;
-        of_text = end-of_text end.0;
-        said = inr (record { status_is = four; part = prefix_within out out' (number_lines outcome.printed) (line_of (answer_of end.0)) part; rose = rose });
+        report = report_of_end steps outcome end.0;
+        is = ended-report steps outcome end.0 end.1;
+        of_text = end-of_text steps end.0;
+        said = inr (record { status_is = four; part = prefix_within out out' (number_lines outcome.printed) (line_of (answer_of steps end.0)) part; rose = rose });
       }
 
 -- ---- a command
@@ -279,12 +234,12 @@ module _ (meant : Option Meant) (command : Meant) (is : meant ≡ Some command) 
     said = says;
   }
 
-pub went-run : (meant : Option Meant) (text : List ℕ) (args : List Arg) (content : List ℕ → Option (List ℕ)) (reads reads' : List ℕ → ℕ) (machine : Loaded)
-    (status faults faults' : ℕ) (out out' : Option (List ℕ)) → meant ≡ Some (Run text args) → IsLoadedFrom text args (content text) machine
-    → RunSaid (run_on machine steps []) status faults faults' out out' → Went meant content reads reads' status faults faults' out out'
-went-run meant text args content reads reads' machine status faults faults' out out' is from run = record {
+pub went-run : (meant : Option Meant) (text : List ℕ) (limits : Limits) (args : List Arg) (content : List ℕ → Option (List ℕ)) (reads reads' : List ℕ → ℕ) (machine : Loaded)
+    (status faults faults' : ℕ) (out out' : Option (List ℕ)) → meant ≡ Some (Run text limits args) → IsLoadedFrom text limits args (content text) machine
+    → RunSaid limits.steps (run_on machine limits.steps []) status faults faults' out out' → Went meant content reads reads' status faults faults' out out'
+went-run meant text limits args content reads reads' machine status faults faults' out out' is from run = record {
   report = run.report;
-  cause = Told (record { command = Run text args; is = is; of_text = run.of_text; told = λ bytes here. from.told bytes here run.report run.is });
+  cause = Told (record { command = Run text limits args; is = is; of_text = run.of_text; told = λ bytes here. from.told bytes here run.report run.is });
   said = run.said;
 }
 

@@ -5,4 +5,5 @@ pub mod LineParts
 pub mod Promises
 pub mod Reports
 pub mod MachineRuns
+pub mod SortedWords
 pub mod Statuses

@@ -1,17 +1,16 @@
 -- A loop that runs a machine and puts the lines of its numbers.
-use Rattle.std.proofs.Common.{◌≡◌, ◌∙◌, ℕ, suc, ℤ, List, [], ◌∷◌, ◌++◌, Option, Some, refl, sym, ap, subst, append_assoc, append-nil}
+use Rattle.std.proofs.Common.{◌≡◌, ◌∙◌, ℕ, zero, suc, ℤ, List, [], ◌∷◌, ◌++◌, Option, Some, option_to_list, refl, sym, ap, subst, append_assoc, append-nil}
 use Rattle.std.specs.Io.KnownBytes.{append_known}
 use Rattle.xan_io.specs.Agreement.{Begins}
-use Rattle.xan_io.specs.Outcome.{How, Outcome}
-use Rattle.xan_io.specs.Outcome as how
+use Rattle.xan_io.specs.Outcome.{Outcome}
 use Rattle.xan_io.specs.Written.{AppendsPrefix}
 use Rattle.xan_io.proofs.Puts.{append_known-nil, append_known-twice, prefix_behind, prefix_within}
-use Rattle.dtal_code.specs.declared.op.Op.{Op}
-use Rattle.dtal_code.proofs.StraightSteps.{run-begins}
-use Rattle.dtal_machine.specs.Ending.{HasEnded}
-use Rattle.dtal_machine.specs.declared.event.Event.TheVariants.{Going, Print, Returned, NoStore, Overflow}
-use Rattle.dtal_machine.specs.Steps.{Loaded, Now, Live, Over, IsLive, event, stepped, moved, run_from, run_on}
-use Rattle.dtal_machine.proofs.MachineSteps.{Stands, stands-going, stands-print, stands-returned, stands-no_store, stands-overflow, stands-spent}
+use Rattle.dtal_code.specs.Machine.{State, On, Off, after}
+use Rattle.dtal_code.specs.ObjectCode.{Code}
+use Rattle.dtal_code.specs.Running.{step, run}
+use Rattle.object_machine.specs.declared.event.Event.TheVariants.{Going, Print, Returned, NoStore, Overflow}
+use Rattle.object_machine.specs.Steps.{Loaded, Now, Live, Over, IsLive, event, stepped, moved, run_from, run_on}
+use Rattle.object_machine.proofs.DrivenMachines.{Stands, stands-begins, stands-going, stands-print, stands-returned, stands-no_store, stands-overflow, stands-spent}
 use Rattle.xan_io.specs.Lines.{number_line}
 use Rattle.dtal_driver.specs.Answers.{number_lines}
 use Rattle.dtal_driver.specs.declared.run.End.{End}
@@ -30,7 +29,19 @@ lines-one_more front n = lines-append front (n ∷ []) ∙ ap (λ line. number_l
 
 -- ---- what was printed stays printed
 
-from-begins : (code : List Op) (now : Now) (steps : ℕ) (printed : List ℤ) → Begins printed (run_from code now steps printed).printed
+begins_more : (front out whole : List ℤ) → Begins (front ++ out) whole → Begins front whole
+begins_more front out whole b = (out ++ b.0, b.1 ∙ append_assoc front out b.0)
+
+run-begins : (code : Code) (steps : ℕ) (printed : List ℤ) (state : State) → Begins printed (run code steps printed state).printed
+unfolding run
+run-begins code zero printed state = ([], sym (append-nil printed))
+run-begins code (suc steps) printed state =
+    elim (step code state) as (λ next. Begins printed (after next printed (run code steps)).printed) [
+      | On number next ↦ begins_more printed (option_to_list number) _ (run-begins code steps (printed ++ option_to_list number) next)
+      | Off how ↦ ([], sym (append-nil printed))
+    ]
+
+from-begins : (code : Code) (now : Now) (steps : ℕ) (printed : List ℤ) → Begins printed (run_from code now steps printed).printed
 from-begins code (Live state) steps printed = run-begins code steps printed state
 from-begins code (Over end) steps printed = ([], sym (append-nil printed))
 
@@ -44,24 +55,25 @@ pub record RunsOn (whole : Outcome) (machine : Loaded) (left : ℕ) (out now : O
   pub said : now ≡ append_known out (number_lines printed)
   pub counted : faults' ≡ faults
 
-pub runs-begin : (machine : Loaded) (left : ℕ) (out : Option (List ℕ)) (faults : ℕ) → IsLive machine.now → RunsOn (run_on machine left []) machine left out out faults faults
-runs-begin machine left out faults live = record {
+pub runs-begin : (machine : Loaded) (steps left : ℕ) (out : Option (List ℕ)) (faults : ℕ) → left ≡ steps → IsLive machine.now
+    → RunsOn (run_on machine steps []) machine left out out faults faults
+runs-begin machine steps left out faults same live = record {
   printed = [];
-  stands = record { so_far = refl; live = live };
+  stands = subst (λ n. Stands (run_on machine steps []) machine n []) (sym same) (stands-begins machine steps live);
   said = sym (append_known-nil out);
   counted = refl;
 }
 
 module _ (whole : Outcome) (machine : Loaded) (left : ℕ) (out now : Option (List ℕ)) (faults faults' : ℕ) (runs : RunsOn whole machine left out now faults faults') where
-  no_store-ended : (printed : List ℤ) → HasEnded whole.how → whole ≡ record { printed = printed; how = how.NoStore } → ⊥
-  no_store-ended printed ends e = subst (λ (o : Outcome). HasEnded o.how) e ends
+  said_whole : (end : End) → whole ≡ record { printed = runs.printed; how = how_of end } → now ≡ append_known out (number_lines whole.printed)
+  said_whole end e = runs.said ∙ ap (λ (o : Outcome). append_known out (number_lines o.printed)) (sym e)
 
-  running-ended : (printed : List ℤ) → HasEnded whole.how → whole ≡ record { printed = printed; how = how.Running } → ⊥
-  running-ended printed ends e = subst (λ (o : Outcome). HasEnded o.how) e ends
+  said_end : (end : End) → whole ≡ record { printed = runs.printed; how = how_of end } → (now ≡ append_known out (number_lines whole.printed)) × (whole.how ≡ how_of end)
+  said_end end e = (said_whole end e, ap (λ (o : Outcome). o.how) e)
 
-  -- there is a step left, since a run of as many steps has ended
-  pub runs-not_spent : HasEnded whole.how → left ≡ 0 → ⊥
-  runs-not_spent ends none = running-ended runs.printed ends (stands-spent whole machine left runs.printed runs.stands none)
+  -- no step is left
+  pub runs-spent : left ≡ 0 → (now ≡ append_known out (number_lines whole.printed)) × (whole.how ≡ how_of ends.Spent)
+  runs-spent none = said_end ends.Spent (stands-spent whole machine left runs.printed runs.stands none)
 
   module _ (fewer : ℕ) (one : left ≡ suc fewer) where
     pub runs-going : (next : Loaded) → next ≡ moved machine → event (stepped machine) ≡ Some Going → RunsOn whole next fewer out now faults faults'
@@ -99,19 +111,12 @@ module _ (whole : Outcome) (machine : Loaded) (left : ℕ) (out now : Option (Li
         (prefix_within out now' (number_lines runs.printed ++ number_line number) (number_lines b.0)
         (prefix_behind out now' (number_lines runs.printed) (number_line number) from))
 
-    pub runs-no_store : HasEnded whole.how → event (stepped machine) ≡ Some NoStore → ⊥
-    runs-no_store ends e = no_store-ended runs.printed ends (stands-no_store whole machine left runs.printed runs.stands fewer one e)
-
-    said_whole : (end : End) → whole ≡ record { printed = runs.printed; how = how_of end } → now ≡ append_known out (number_lines whole.printed)
-    said_whole end e = runs.said ∙ ap (λ (o : Outcome). append_known out (number_lines o.printed)) (sym e)
-
     pub runs-returned : (word : ℤ) → event (stepped machine) ≡ Some (Returned word)
         → (now ≡ append_known out (number_lines whole.printed)) × (whole.how ≡ how_of (ends.Returned word))
-    runs-returned word e =
-        let is = stands-returned whole machine left runs.printed runs.stands fewer one word e in
-        (said_whole (ends.Returned word) is, ap (λ (o : Outcome). o.how) is)
+    runs-returned word e = said_end (ends.Returned word) (stands-returned whole machine left runs.printed runs.stands fewer one word e)
+
+    pub runs-no_store : event (stepped machine) ≡ Some NoStore → (now ≡ append_known out (number_lines whole.printed)) × (whole.how ≡ how_of ends.NoStore)
+    runs-no_store e = said_end ends.NoStore (stands-no_store whole machine left runs.printed runs.stands fewer one e)
 
     pub runs-overflow : event (stepped machine) ≡ Some Overflow → (now ≡ append_known out (number_lines whole.printed)) × (whole.how ≡ how_of ends.Overflow)
-    runs-overflow e =
-        let is = stands-overflow whole machine left runs.printed runs.stands fewer one e in
-        (said_whole ends.Overflow is, ap (λ (o : Outcome). o.how) is)
+    runs-overflow e = said_end ends.Overflow (stands-overflow whole machine left runs.printed runs.stands fewer one e)

@@ -11,7 +11,7 @@ use Rattle.dtal_driver.specs.declared.run.End.{End}
 use Rattle.dtal_driver.specs.declared.run.End.TheVariants as ends
 use Rattle.dtal_driver.specs.Answers.{status_of, line_of}
 use Rattle.dtal_driver.specs.Causes.{IsOfText, TextRose, Tells, Cause, NoCommand, ReadFailed, Memory, Told, SaidAll, SaidPart, Went}
-use Rattle.dtal_driver.specs.Promises.{IsStatus, OfText, Said, SaidInPart}
+use Rattle.dtal_driver.specs.Promises.{IsStatus, IsEndOfRun, Returned, NoStore, Overflow, Spent, OfText, Said, SaidInPart}
 use Rattle.dtal_driver.specs.Report.{Report, plain, report_text, answer_of, fault_answer, Reports}
 use Rattle.dtal_driver.specs.Words.{Meant, text_of}
 use Rattle.dtal_driver.proofs.Reports.{OneProgram, one_report}
@@ -22,7 +22,6 @@ status_of-is : (said : Answer) → IsStatus (status_of said)
 status_of-is answer.NoCommand = refl
 status_of-is answer.ReadFailed = refl
 status_of-is answer.Memory = refl
-status_of-is answer.NotBuilt = refl
 status_of-is (answer.Refused at rule) = refl
 status_of-is (answer.Accepted f n) = refl
 status_of-is answer.TooLong = refl
@@ -32,14 +31,15 @@ status_of-is (answer.ArgKind n) = refl
 status_of-is (answer.ArgIndex n) = refl
 status_of-is (answer.EntryRow n) = refl
 status_of-is (answer.Returned word) = refl
+status_of-is answer.NoStore = refl
 status_of-is answer.Overflow = refl
+status_of-is (answer.StepsEnded n) = refl
 
 -- no answer has the status of a fault of the output
 not_four : (said : Answer) → status_of said ≡ 4 → ⊥
 not_four answer.NoCommand e = omega (arith, e)
 not_four answer.ReadFailed e = omega (arith, e)
 not_four answer.Memory e = omega (arith, e)
-not_four answer.NotBuilt e = omega (arith, e)
 not_four (answer.Refused at rule) e = omega (arith, e)
 not_four (answer.Accepted f n) e = omega (arith, e)
 not_four answer.TooLong e = omega (arith, e)
@@ -49,7 +49,9 @@ not_four (answer.ArgKind n) e = omega (arith, e)
 not_four (answer.ArgIndex n) e = omega (arith, e)
 not_four (answer.EntryRow n) e = omega (arith, e)
 not_four (answer.Returned word) e = omega (arith, e)
+not_four answer.NoStore e = omega (arith, e)
 not_four answer.Overflow e = omega (arith, e)
+not_four (answer.StepsEnded n) e = omega (arith, e)
 
 -- an answer of a text has another status than those that are not
 pub record IsApart (status : ℕ) : Type 0 where
@@ -61,7 +63,6 @@ of_text-apart : (said : Answer) → IsOfText said → IsApart (status_of said)
 of_text-apart answer.NoCommand is = absurd is
 of_text-apart answer.ReadFailed is = absurd is
 of_text-apart answer.Memory is = absurd is
-of_text-apart answer.NotBuilt is = record { two = λ e. omega (arith, e); three = λ e. omega (arith, e); six = λ e. omega (arith, e) }
 of_text-apart (answer.Refused at rule) is = record { two = λ e. omega (arith, e); three = λ e. omega (arith, e); six = λ e. omega (arith, e) }
 of_text-apart (answer.Accepted f n) is = record { two = λ e. omega (arith, e); three = λ e. omega (arith, e); six = λ e. omega (arith, e) }
 of_text-apart answer.TooLong is = record { two = λ e. omega (arith, e); three = λ e. omega (arith, e); six = λ e. omega (arith, e) }
@@ -71,7 +72,9 @@ of_text-apart (answer.ArgKind n) is = record { two = λ e. omega (arith, e); thr
 of_text-apart (answer.ArgIndex n) is = record { two = λ e. omega (arith, e); three = λ e. omega (arith, e); six = λ e. omega (arith, e) }
 of_text-apart (answer.EntryRow n) is = record { two = λ e. omega (arith, e); three = λ e. omega (arith, e); six = λ e. omega (arith, e) }
 of_text-apart (answer.Returned word) is = record { two = λ e. omega (arith, e); three = λ e. omega (arith, e); six = λ e. omega (arith, e) }
+of_text-apart answer.NoStore is = record { two = λ e. omega (arith, e); three = λ e. omega (arith, e); six = λ e. omega (arith, e) }
 of_text-apart answer.Overflow is = record { two = λ e. omega (arith, e); three = λ e. omega (arith, e); six = λ e. omega (arith, e) }
+of_text-apart (answer.StepsEnded n) is = record { two = λ e. omega (arith, e); three = λ e. omega (arith, e); six = λ e. omega (arith, e) }
 
 pub fault-twelve : (fault : EntryFault) → status_of (fault_answer fault) ≡ 12
 fault-twelve fault.ArgCount = refl
@@ -80,13 +83,36 @@ fault-twelve (fault.ArgIndex n) = refl
 fault-twelve (fault.EntryRow n) = refl
 
 -- how a run ends is told by the status
-pub end-status : (end : End) → (status_of (answer_of end) ≡ 0) ⊎ (status_of (answer_of end) ≡ 14)
-end-status (ends.Returned word) = inl refl
-end-status ends.Overflow = inr refl
+pub end-status : (steps : ℕ) (end : End) → IsEndOfRun (status_of (answer_of steps end))
+end-status steps (ends.Returned word) = Returned refl
+end-status steps ends.NoStore = NoStore refl
+end-status steps ends.Overflow = Overflow refl
+end-status steps ends.Spent = Spent refl
 
-pub end-overflow : (end : End) → status_of (answer_of end) ≡ 14 → end ≡ ends.Overflow
-end-overflow (ends.Returned word) e = absurd (omega (arith, e))
-end-overflow ends.Overflow e = refl
+pub end-no_store : (steps : ℕ) (end : End) → status_of (answer_of steps end) ≡ 13 → end ≡ ends.NoStore
+end-no_store steps (ends.Returned word) e = absurd (omega (arith, e))
+end-no_store steps ends.NoStore e = refl
+end-no_store steps ends.Overflow e = absurd (omega (arith, e))
+end-no_store steps ends.Spent e = absurd (omega (arith, e))
+
+pub end-overflow : (steps : ℕ) (end : End) → status_of (answer_of steps end) ≡ 14 → end ≡ ends.Overflow
+end-overflow steps (ends.Returned word) e = absurd (omega (arith, e))
+end-overflow steps ends.NoStore e = absurd (omega (arith, e))
+end-overflow steps ends.Overflow e = refl
+end-overflow steps ends.Spent e = absurd (omega (arith, e))
+
+pub end-spent : (steps : ℕ) (end : End) → status_of (answer_of steps end) ≡ 15 → end ≡ ends.Spent
+end-spent steps (ends.Returned word) e = absurd (omega (arith, e))
+end-spent steps ends.NoStore e = absurd (omega (arith, e))
+end-spent steps ends.Overflow e = absurd (omega (arith, e))
+end-spent steps ends.Spent e = refl
+
+-- no other status
+pub other_status : (number : ℕ) → IsEndOfRun number → number ≢ 0 → number ≢ 13 → number ≢ 14 → number ≢ 15 → ⊥
+other_status number (Returned e) a b c d = a e
+other_status number (NoStore e) a b c d = b e
+other_status number (Overflow e) a b c d = c e
+other_status number (Spent e) a b c d = d e
 
 or_command : Meant → Option Meant → Meant
 or_command d None = d

@@ -6,7 +6,7 @@ use Rattle.dtal_code.specs.declared.refusal.Rule.{Rule}
 use Rattle.dtal_code.specs.declared.refusal.Rule.TheVariants as rules
 use Rattle.xan_io.specs.Lines.{number_line}
 use Rattle.dtal_driver.specs.declared.answer.Answer.{Answer}
-use Rattle.dtal_driver.specs.declared.answer.Answer.TheVariants.{NoCommand, ReadFailed, Memory, TooLong, NoProgram, NotBuilt, Refused, Accepted, ArgCount, ArgKind, ArgIndex, EntryRow, Returned, Overflow}
+use Rattle.dtal_driver.specs.declared.answer.Answer.TheVariants.{NoCommand, ReadFailed, Memory, TooLong, NoProgram, Refused, Accepted, ArgCount, ArgKind, ArgIndex, EntryRow, Returned, NoStore, Overflow, StepsEnded}
 
 abbrev pub status_of : Answer → ℕ
 status_of (Accepted _ _) = 0
@@ -21,8 +21,9 @@ status_of ArgCount = 12
 status_of (ArgKind _) = 12
 status_of (ArgIndex _) = 12
 status_of (EntryRow _) = 12
+status_of NoStore = 13
 status_of Overflow = 14
-status_of NotBuilt = 20
+status_of (StepsEnded _) = 15
 
 -- ---- lines
 
@@ -72,7 +73,6 @@ line_of ReadFailed = codes "read: failed\n"
 line_of Memory = codes "memory\n"
 line_of TooLong = codes "limit: length 1099511627776\n"
 line_of (NoProgram at) = numbered_line (codes "text: at ") at
-line_of NotBuilt = codes "not built yet\n"
 line_of (Refused at rule) = refused_line at rule
 line_of (Accepted functions instructions) = accepted_line functions instructions
 line_of ArgCount = codes "entry: count\n"
@@ -80,4 +80,6 @@ line_of (ArgKind argument) = numbered_line (codes "entry: kind of argument ") ar
 line_of (ArgIndex argument) = numbered_line (codes "entry: index of argument ") argument
 line_of (EntryRow row) = numbered_line (codes "entry: row ") row
 line_of (Returned word) = number_line word
+line_of NoStore = codes "no store\n"
 line_of Overflow = codes "overflow\n"
+line_of (StepsEnded steps) = numbered_line (codes "steps ended: ") steps

@@ -1,15 +1,10 @@
 -- Why a text gives a program that is accepted, or an answer in its place.
-use Rattle.std.specs.Prelude.{◌≡◌, ◌<◌, ◌≤◌, ◌⊎◌, ℕ, List, [], length, Option, Some, None, Err}
-use Rattle.xan_io.specs.Entry.{EntryFault}
+use Rattle.std.specs.Prelude.{◌≡◌, ◌≢◌, ◌<◌, ◌≤◌, ◌⊎◌, ℕ, List, [], length, Option, Some, None, Err}
+use Rattle.std.specs.Io.KnownBytes.{append_known}
+use Rattle.xan_io.specs.declared.arg.Arg.{Arg}
 use Rattle.xan_io.specs.Faults.{Rose}
-use Rattle.xan_io.specs.Outcome.{Outcome}
-use Rattle.dtal_code.specs.declared.straight.Straight.{Straight}
-use Rattle.dtal_text.specs.StraightText.{IsStraightText}
-use Rattle.dtal_machine.specs.Typing.{IsAccepted}
-use Rattle.dtal_machine.specs.Refusal.{refusal}
-use Rattle.dtal_machine.specs.declared.refusal.VerifyError.TheVariants as verify
-use Rattle.dtal_machine.specs.declared.refusal.Where as straight_where
-use Rattle.dtal_machine.specs.declared.refusal.Rule as straight_rule
+use Rattle.xan_io.specs.Outcome.{Outcome, Stuck}
+use Rattle.xan_io.specs.Written.{AppendsPrefix}
 use Rattle.xan_read.specs.Reader.{IsLongest}
 use Rattle.dtal_code.specs.declared.program.DtalProgram.{DtalProgram}
 use Rattle.dtal_code.specs.declared.refusal.Where.{Where}
@@ -18,22 +13,17 @@ use Rattle.dtal_code.specs.Acceptance.{Accepted}
 use Rattle.dtal_code.specs.Grammar.{InGrammar, Spells}
 use Rattle.dtal_code.specs.Refusing.{verified}
 use Rattle.dtal_text.specs.WholeText.{IsSpelled}
-use Rattle.dtal_driver.specs.Stops.{place_of, rule_of}
-use Rattle.dtal_driver.specs.VerifiedTexts.{text_most}
+use Rattle.object_machine.specs.Loading.{IsRunOf}
+use Rattle.object_machine.specs.Steps.{Loaded, IsLive, run_on}
 use Rattle.dtal_driver.specs.declared.answer.Answer.{Answer}
 use Rattle.dtal_driver.specs.declared.answer.Answer.TheVariants as answer
-use Rattle.xan_io.specs.declared.arg.Arg.{Arg}
-use Rattle.xan_io.specs.Written.{AppendsPrefix}
-use Rattle.std.specs.Io.KnownBytes.{append_known}
-use Rattle.dtal_code.specs.Entry.{straight_entry}
-use Rattle.dtal_machine.specs.Ending.{HasEnded}
-use Rattle.dtal_machine.specs.Loading.{IsRunOf}
-use Rattle.dtal_machine.specs.Steps.{Loaded, IsLive, run_on}
+use Rattle.dtal_driver.specs.declared.options.Limits.{Limits}
 use Rattle.dtal_driver.specs.Answers.{status_of}
-use Rattle.dtal_driver.specs.Report.{IsNoText, Report, Reports, plain, heap, depth, steps, ended, fault_answer, report_text}
+use Rattle.dtal_driver.specs.Report.{Report, Reports, plain, ended, ran_report, report_text}
+use Rattle.dtal_driver.specs.VerifiedTexts.{text_most}
 use Rattle.dtal_driver.specs.Words.{Meant, Run, text_of}
 
--- ---- whole texts, which are verified
+-- ---- texts
 
 -- the bytes are not too many, and spell the program
 pub record IsText (bytes : List ℕ) (program : DtalProgram) : Type 0 where
@@ -67,62 +57,36 @@ IsDenied content faults faults' (answer.NoProgram at) = (bytes : List ℕ) → c
 IsDenied content faults faults' (answer.Refused at rule) = (bytes : List ℕ) → content ≡ Some bytes → IsRefusedProgram bytes at rule
 IsDenied content faults faults' _ = ⊥
 
--- ---- straight texts, which are run
-
--- the bytes are the text of this program, which is accepted
-pub record AcceptsBytes (bytes : List ℕ) (program : Straight) : Type 0 where
-  pub text : IsStraightText bytes program
-  pub accepted : IsAccepted program
-  pub not_refused : refusal program ≡ None
-
--- the bytes are the text of a program that is refused there, by that rule
-pub record IsRefusedText (bytes : List ℕ) (at : Where) (rule : Rule) : Type 0 where
-  pub program : Straight
-  pub text : IsStraightText bytes program
-  pub place : straight_where.Where
-  pub broken : straight_rule.Rule
-  pub refused : refusal program ≡ Some (verify.Refused place broken)
-  pub at_is : at ≡ place_of place
-  pub rule_is : rule ≡ rule_of broken
-
--- the program is accepted and short, and where the content is told, it is the text of the program
-pub record Accepts (content : Option (List ℕ)) (program : Straight) : Type 0 where
-  pub accepted : IsAccepted program
-  pub few : length program.code ≤ 1000
-  pub told : (bytes : List ℕ) → content ≡ Some bytes → AcceptsBytes bytes program
-
--- The answer where a name gives no accepted program: the read failed, and its count rose, or where the content is told, its bytes are
--- refused.
-abbrev pub Refuses : Option (List ℕ) → ℕ → ℕ → Answer → Type 0
-Refuses content faults faults' answer.ReadFailed = Rose faults faults'
-Refuses content faults faults' answer.Memory = Unit {0}
-Refuses content faults faults' answer.NotBuilt = (bytes : List ℕ) → content ≡ Some bytes → IsNoText bytes
-Refuses content faults faults' (answer.Refused at rule) = (bytes : List ℕ) → content ≡ Some bytes → IsRefusedText bytes at rule
-Refuses content faults faults' _ = ⊥
+-- the answer is one that depends on the text
+abbrev pub IsOfText : Answer → Type 0
+IsOfText answer.NoCommand = ⊥
+IsOfText answer.ReadFailed = ⊥
+IsOfText answer.Memory = ⊥
+IsOfText _ = Unit {0}
 
 -- ---- machines
 
--- the machine is at the start of the program's run on these arguments, and this run ends
-pub record IsLoaded (program : Straight) (args : List Arg) (machine : Loaded) : Type 0 where
+-- The machine is at the start of the program's run on these arguments, which is not stuck after its steps.
+pub record IsLoaded (program : DtalProgram) (limits : Limits) (args : List Arg) (machine : Loaded) : Type 0 where
   pub live : IsLive machine.now
-  pub ends : HasEnded (run_on machine steps []).how
-  pub run : IsRunOf program args heap depth steps (run_on machine steps [])
+  pub goes : (run_on machine limits.steps []).how ≢ Stuck
+  pub run : IsRunOf program args limits.heap limits.depth limits.steps (run_on machine limits.steps [])
 
--- the arguments have this first fault
-pub record HasFault (program : Straight) (args : List Arg) (said : Answer) : Type 0 where
-  pub fault : EntryFault
-  pub found : straight_entry program args heap depth ≡ Err fault
-  pub is : said ≡ fault_answer fault
+-- this answer is reported in place of a run: the fault of the arguments, or that there is no store for them
+pub record IsUnbegun (program : DtalProgram) (limits : Limits) (args : List Arg) (said : Answer) : Type 0 where
+  pub of_text : IsOfText said
+  pub is : ran_report program limits args ≡ Some (plain said)
 
--- the answer is the first fault of the arguments, or memory ran out
-abbrev pub IsFaulty : Straight → List Arg → Answer → Type 0
-IsFaulty program args said = (said ≡ answer.Memory) ⊎ HasFault program args said
+-- so it is, or memory ran out
+abbrev pub IsNotLoaded : DtalProgram → Limits → List Arg → Answer → Type 0
+IsNotLoaded program limits args said = (said ≡ answer.Memory) ⊎ IsUnbegun program limits args said
 
 -- the machine is at the start of a run, and where the content is told, its run is reported of the text
-pub record IsLoadedFrom (text : List ℕ) (args : List Arg) (content : Option (List ℕ)) (machine : Loaded) : Type 0 where
+pub record IsLoadedFrom (text : List ℕ) (limits : Limits) (args : List Arg) (content : Option (List ℕ)) (machine : Loaded) : Type 0 where
   pub live : IsLive machine.now
-  pub ends : HasEnded (run_on machine steps []).how
-  pub told : (bytes : List ℕ) → content ≡ Some bytes → (report : Report) → ended (run_on machine steps []) ≡ Some report → Reports (Run text args) bytes report
+  pub goes : (run_on machine limits.steps []).how ≢ Stuck
+  pub told : (bytes : List ℕ) → content ≡ Some bytes → (report : Report) → ended limits.steps (run_on machine limits.steps []) ≡ Some report
+      → Reports (Run text limits args) bytes report
 
 -- ---- whole commands
 
@@ -131,13 +95,6 @@ pub record TextRose (meant : Option Meant) (reads reads' : List ℕ → ℕ) : T
   pub command : Meant
   pub is : meant ≡ Some command
   pub rose : Rose (reads (text_of command)) (reads' (text_of command))
-
--- the answer is one that depends on the text
-abbrev pub IsOfText : Answer → Type 0
-IsOfText answer.NoCommand = ⊥
-IsOfText answer.ReadFailed = ⊥
-IsOfText answer.Memory = ⊥
-IsOfText _ = Unit {0}
 
 -- the answer depends on the text, and where the content of the command's text is told, this is what is reported of it
 pub record Tells (meant : Option Meant) (content : List ℕ → Option (List ℕ)) (report : Report) : Type 0 where
@@ -177,9 +134,9 @@ pub record Went (meant : Option Meant) (content : List ℕ → Option (List ℕ)
   pub cause : Cause meant content reads reads' report
   pub said : Says report status faults faults' out out'
 
--- how a run went, which came to this outcome
-pub record RunSaid (outcome : Outcome) (status faults faults' : ℕ) (out out' : Option (List ℕ)) : Type 0 where
+-- how a run went, which came to this outcome within its steps
+pub record RunSaid (steps : ℕ) (outcome : Outcome) (status faults faults' : ℕ) (out out' : Option (List ℕ)) : Type 0 where
   pub report : Report
-  pub is : ended outcome ≡ Some report
+  pub is : ended steps outcome ≡ Some report
   pub of_text : IsOfText report.answer
   pub said : Says report status faults faults' out out'

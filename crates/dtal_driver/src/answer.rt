@@ -2,12 +2,14 @@
 
 ghost use Rattle.std.specs.Prelude.{◌≡◌};
 ghost use Rattle.dtal_driver.specs.Answers.{status_of};
-ghost use Rattle.dtal_driver.specs.Stops.{of_read, of_program, of_text, of_verdict};
+ghost use Rattle.dtal_driver.specs.Stops.{of_read, of_program, of_verdict, of_load};
+ghost use Rattle.dtal_driver.specs.declared.answer.Answer.TheVariants as answers;
 
 use dtal_code::{Rule, Where};
-use dtal_text::{StraightError, TextError};
+use dtal_text::TextError;
 use dtal_verifier::VerifyError;
-use xan_io::FileFault;
+use object_machine::LoadError;
+use xan_io::{FileFault, Memory};
 
 /// How a command came out, in the order in which it may end. Arguments and rows are numbered from 1.
 #[derive(Clone, Copy)]
@@ -22,8 +24,6 @@ pub enum Answer {
     Memory,
     /// The bytes are the text of no program. So many of them begin one, and one more begins none.
     NoProgram(u64),
-    /// The text is not straight, and others are not run yet.
-    NotBuilt,
     /// The program is not accepted: the first place that refuses, and its rule.
     Refused {
         at: Where,
@@ -46,8 +46,12 @@ pub enum Answer {
     EntryRow(u32),
     /// The run has ended with this number.
     Returned(i64),
+    /// The run has ended, or could not begin, since the store or the activations did not suffice.
+    NoStore,
     /// The run has ended since a result does not fit a word.
     Overflow,
+    /// The run goes on after this number of steps, which is all that it may make.
+    StepsEnded(u64),
 }
 
 impl Answer {
@@ -64,8 +68,9 @@ impl Answer {
             Answer::NoProgram(_) => 7,
             Answer::Refused { .. } => 11,
             Answer::ArgCount | Answer::ArgKind(_) | Answer::ArgIndex(_) | Answer::EntryRow(_) => 12,
+            Answer::NoStore => 13,
             Answer::Overflow => 14,
-            Answer::NotBuilt => 20,
+            Answer::StepsEnded(_) => 15,
         }
     }
 }
@@ -92,17 +97,6 @@ impl From<TextError> for Answer {
     }
 }
 
-impl From<StraightError> for Answer {
-    ghost from_gives = { λ error answer. answer ≡ of_text error };
-
-    fn from(error: StraightError) -> Answer {
-        match error {
-            StraightError::Form => Answer::NotBuilt,
-            StraightError::Memory => Answer::Memory,
-        }
-    }
-}
-
 impl From<VerifyError> for Answer {
     ghost from_gives = { λ error answer. answer ≡ of_verdict error };
 
@@ -110,6 +104,29 @@ impl From<VerifyError> for Answer {
         match error {
             VerifyError::Refused { at, rule } => Answer::Refused { at, rule },
             VerifyError::Memory => Answer::Memory,
+        }
+    }
+}
+
+impl From<Memory> for Answer {
+    ghost from_gives = { λ _ answer. answer ≡ answers.Memory };
+
+    fn from(_error: Memory) -> Answer {
+        Answer::Memory
+    }
+}
+
+impl From<LoadError> for Answer {
+    ghost from_gives = { λ error answer. answer ≡ of_load error };
+
+    fn from(error: LoadError) -> Answer {
+        match error {
+            LoadError::ArgCount => Answer::ArgCount,
+            LoadError::ArgKind(argument) => Answer::ArgKind(argument),
+            LoadError::ArgIndex(argument) => Answer::ArgIndex(argument),
+            LoadError::EntryRow(row) => Answer::EntryRow(row),
+            LoadError::NoStore => Answer::NoStore,
+            LoadError::Memory => Answer::Memory,
         }
     }
 }

@@ -2,16 +2,17 @@
 //!
 //! [`dtal_top`] reads the text of one name. `verify` says whether its program is accepted, `run` runs it and prints its numbers. Its
 //! contract says when each status comes and what is said, that an accepted program is safe in every run, and that what is printed is the
-//! program's output. It stands on the assembly language, its reader, its machine, and the files and the sink that it is given.
+//! program's output. It stands on the assembly language, its reader, verifier, assembler and machine, on the law of safety, and on the
+//! files and the sink that it is given.
 #![tactic(auto)]
 
 mod answer;
 mod counts;
+mod limits;
 mod lines;
+mod load;
+mod options;
 mod run;
-mod straight;
-#[cfg(test)]
-mod tests;
 mod text;
 mod top;
 mod words;

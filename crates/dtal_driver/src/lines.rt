@@ -39,7 +39,6 @@ fn line_of(answer: Answer) -> Line
         Answer::Memory => line_of_word("memory\n"),
         Answer::TooLong => line_of_word("limit: length 1099511627776\n"),
         Answer::NoProgram(at) => line_of_number("text: at ", at, "\n"),
-        Answer::NotBuilt => line_of_word("not built yet\n"),
         Answer::Refused { at, rule } => {
             line_of_place("refused: ", at, ": rule ", name_of(rule), "\n")
         }
@@ -66,7 +65,9 @@ fn line_of(answer: Answer) -> Line
         ),
         Answer::EntryRow(row) => line_of_number("entry: row ", u64::from(row), "\n"),
         Answer::Returned(word) => line_of_result(&word),
+        Answer::NoStore => line_of_word("no store\n"),
         Answer::Overflow => line_of_word("overflow\n"),
+        Answer::StepsEnded(steps) => line_of_number("steps ended: ", steps, "\n"),
     }
 }
 

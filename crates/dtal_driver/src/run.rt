@@ -4,43 +4,45 @@ ghost use Rattle.std.specs.Prelude.{◌≡◌, ◌≤◌, [], ◌++◌, OnOk, On
 ghost use Rattle.std.specs.Io.KnownBytes.{append_known};
 ghost use Rattle.xan_io.specs.Faults.{Rose};
 ghost use Rattle.xan_io.specs.Written.{AppendsPrefix};
-ghost use Rattle.dtal_machine.specs.Ending.{HasEnded};
-ghost use Rattle.dtal_machine.specs.Steps.{IsLive, run_on};
+ghost use Rattle.object_machine.specs.Steps.{IsLive, run_on};
 ghost use Rattle.dtal_driver.specs.Answers.{number_lines};
-ghost use Rattle.dtal_driver.specs.Report.{answer_of, how_of, steps};
+ghost use Rattle.dtal_driver.specs.Report.{answer_of, how_of};
 
 use crate::answer::Answer;
-use dtal_machine::{Event, Machine};
+use object_machine::{Event, Machine};
 use xan_io::{Sink, SinkFault, put_number};
 
-/// The steps that a run may make. A straight program ends long before.
-const STEPS: u64 = 1_000_000_000;
-
-/// How the run of an accepted straight program ends. It wants no memory, and no store.
+/// How the run of an accepted program has come out. It wants no memory.
 #[derive(Clone, Copy)]
 pub enum End {
-    /// With this number.
+    /// It has returned this number.
     Returned(i64),
-    /// At a result that does not fit a word.
+    /// The store or the activations did not suffice.
+    NoStore,
+    /// A result does not fit a word.
     Overflow,
+    /// All its steps are made, and it goes on.
+    Spent,
 }
 
 impl End {
-    /// What is answered of it.
-    pub fn answer(self) -> Answer
-        ensures { result ≡ answer_of self }
+    /// What is answered of it, where the run may make so many steps.
+    pub fn answer(self, steps: u64) -> Answer
+        ensures { result ≡ answer_of steps self }
     {
         match self {
             End::Returned(word) => Answer::Returned(word),
+            End::NoStore => Answer::NoStore,
             End::Overflow => Answer::Overflow,
+            End::Spent => Answer::StepsEnded(steps),
         }
     }
 }
 
-/// Runs the machine to its end, and puts a line for each number that it prints. After a fault a prefix of these lines is put.
-pub fn run<O: Sink>(mut machine: Machine, out: &mut O) -> Result<End, SinkFault>
-    requires live { IsLive machine.now }
-    requires ends { HasEnded (run_on machine steps []).how }
+/// Runs the machine to its end, or for so many steps, and puts a line for each number that it prints. After a fault a prefix of these lines
+/// is put.
+pub fn run<O: Sink>(mut machine: Machine, out: &mut O, steps: u64) -> Result<End, SinkFault>
+    requires { IsLive machine.now }
     ensures ended { IfOk result (λ end. (run_on machine steps []).how ≡ how_of end) }
     ensures appended { OnOk result (O.written out.new ≡ append_known (O.written out.old) (number_lines (run_on machine steps []).printed)) }
     ensures counted { OnOk result (O.faults out.new ≡ O.faults out.old) }
@@ -48,15 +50,15 @@ pub fn run<O: Sink>(mut machine: Machine, out: &mut O) -> Result<End, SinkFault>
     ensures failed { OnErr result (Rose (O.faults out.old) (O.faults out.new)) }
     ensures never_falls { O.faults out.old ≤ O.faults out.new }
 {
-    for step in 0..STEPS {
+    for step in 0..steps {
         let _ = step;
         match machine.step() {
             Event::Going => {}
             Event::Print(number) => put_number(out, &number)?,
             Event::Returned(word) => return Ok(End::Returned(word)),
+            Event::NoStore => return Ok(End::NoStore),
             Event::Overflow => return Ok(End::Overflow),
-            Event::NoStore => unreachable!(),
         }
     }
-    unreachable!()
+    Ok(End::Spent)
 }

@@ -1,41 +1,37 @@
 //! The whole program: words in, a status out.
 
-ghost use Rattle.std.specs.Prelude.{◌≡◌, ◌≢◌, ◌<◌, ◌≤◌, ◌⊎◌, ℕ, List, length, Some, None, Err, [], IfOk, IfErr};
+ghost use Rattle.std.specs.Prelude.{◌≡◌, ◌≢◌, ◌<◌, ◌⊎◌, ℕ, List, Some, None, Err, [], IfOk, IfErr};
 ghost use Rattle.xan_io.specs.Faults.{Rose};
-ghost use Rattle.dtal_machine.specs.Ending.{HasEnded};
-ghost use Rattle.dtal_machine.specs.Steps.{IsLive, run_on};
-ghost use Rattle.dtal_machine.specs.Typing.{IsAccepted};
+ghost use Rattle.xan_io.specs.Outcome.{Stuck};
+ghost use Rattle.object_machine.specs.Steps.{IsLive, run_on};
 ghost use Rattle.dtal_code.specs.declared.program.DtalProgram.{DtalProgram};
 ghost use Rattle.dtal_code.specs.Acceptance.{Accepted};
 ghost use Rattle.dtal_code.specs.Refusing.{verified};
 ghost use Rattle.std.specs.Io.KnownBytes.{append_known};
 ghost use Rattle.xan_io.specs.declared.arg.Arg.{Arg};
 ghost use Rattle.dtal_driver.specs.Answers.{status_of, line_of};
-ghost use Rattle.dtal_driver.specs.Promises.{IsStatus, OfText, TooLongFor, NoProgramAt, NotStraight, RefusedAt, FaultyAt, RanTo, Ran, AcceptedText, Said, SaidInPart};
-ghost use Rattle.dtal_driver.specs.Causes.{Cause, TextRose, IsText, IsLoaded, IsFaulty, IsLoadedFrom, Says, Went, RunSaid};
-ghost use Rattle.dtal_driver.specs.Report.{Report, Reports, plain, report_text, steps};
+ghost use Rattle.dtal_driver.specs.Promises.{IsStatus, IsEndOfRun, OfText, TooLongFor, NoProgramAt, RefusedAt, FaultyAt, RanTo, Ran, AcceptedText, Said, SaidInPart};
+ghost use Rattle.dtal_driver.specs.Causes.{Cause, TextRose, IsText, IsLoadedFrom, Says, Went, RunSaid};
+ghost use Rattle.dtal_driver.specs.Options.{IsWithin};
+ghost use Rattle.dtal_driver.specs.Report.{Report, Reports, plain, report_text};
+ghost use Rattle.dtal_driver.specs.declared.options.Limits.{Limits};
 ghost use Rattle.dtal_driver.specs.Words.{Meant, words_mean, text_of, Verify, Run};
 ghost use Rattle.xan_io.specs.Words.{texts};
 
 use crate::answer::Answer;
 use crate::counts::accepted_answer;
 use crate::lines::put_line;
+use crate::load::load;
+use crate::options::Limits;
 use crate::run::{End, run};
-use crate::straight::accepted_program;
 use crate::text::verified_program;
 use crate::words::{Command, WordsError, read_command};
-use dtal_code::{Rule, Where, one_program_a_text};
-use dtal_machine::{LoadError, Machine, Verified};
+use dtal_code::{Rule, Where};
 use dtal_safety::accepted_programs_run_safely;
 use dtal_text::program_texts_are_read;
+use object_machine::Machine;
 use std::alloc::Global;
 use xan_io::{Arg, Files, Sink};
-
-/// The words that the store of a run may have.
-const HEAP: u64 = 1_048_576;
-
-/// The activations that a run may have at once.
-const DEPTH: u64 = 4096;
 
 /// The status where `out` failed; nothing more can be said then.
 const CUT: u8 = 4;
@@ -53,13 +49,14 @@ pub fn dtal_top<F: Files, O: Sink>(alloc: Global, words: &[&str], files: &mut F,
     ensures put_failed { result ≡ 4 → Rose (O.faults out.old) (O.faults out.new) }
     ensures put_rises { O.faults out.old < O.faults out.new → result ≡ 4 }
 
-    // 5, 7, 20, 11, 12 and 14, by what the text holds; the clause `complete` says when they come.
-    ensures too_long { result ≡ 5 → OfText (words_mean (texts words.now)) (F.content files.old) (λ command bytes. TooLongFor command bytes (O.written out.old) (O.written out.new)) }
-    ensures no_program { result ≡ 7 → OfText (words_mean (texts words.now)) (F.content files.old) (λ command bytes. NoProgramAt command bytes (O.written out.old) (O.written out.new)) }
-    ensures not_straight { result ≡ 20 → OfText (words_mean (texts words.now)) (F.content files.old) NotStraight }
-    ensures refused { result ≡ 11 → OfText (words_mean (texts words.now)) (F.content files.old) (λ command bytes. RefusedAt command bytes (O.written out.old) (O.written out.new)) }
+    // 5, 7, 11, 12, 13, 14 and 15, by what the text holds; the clause `complete` says when they come.
+    ensures too_long { result ≡ 5 → OfText (words_mean (texts words.now)) (F.content files.old) (λ command bytes. TooLongFor bytes (O.written out.old) (O.written out.new)) }
+    ensures no_program { result ≡ 7 → OfText (words_mean (texts words.now)) (F.content files.old) (λ command bytes. NoProgramAt bytes (O.written out.old) (O.written out.new)) }
+    ensures refused { result ≡ 11 → OfText (words_mean (texts words.now)) (F.content files.old) (λ command bytes. RefusedAt bytes (O.written out.old) (O.written out.new)) }
     ensures faults { result ≡ 12 → OfText (words_mean (texts words.now)) (F.content files.old) (λ command bytes. FaultyAt command bytes (O.written out.old) (O.written out.new)) }
+    ensures no_store { result ≡ 13 → OfText (words_mean (texts words.now)) (F.content files.old) (λ command bytes. RanTo command bytes End.NoStore (O.written out.old) (O.written out.new)) }
     ensures overflow { result ≡ 14 → OfText (words_mean (texts words.now)) (F.content files.old) (λ command bytes. RanTo command bytes End.Overflow (O.written out.old) (O.written out.new)) }
+    ensures steps_ended { result ≡ 15 → OfText (words_mean (texts words.now)) (F.content files.old) (λ command bytes. RanTo command bytes End.Spent (O.written out.old) (O.written out.new)) }
 
     // No name holds anything else afterwards.
     ensures unchanged { (name : List ℕ) → F.content files.new name ≡ F.content files.old name }
@@ -69,11 +66,11 @@ pub fn dtal_top<F: Files, O: Sink>(alloc: Global, words: &[&str], files: &mut F,
     ensures cut { result ≡ 4 → SaidInPart (words_mean (texts words.now)) (F.content files.old) (F.read_faults files.old) (F.read_faults files.new) (O.written out.old) (O.written out.new) }
     ensures memory { result ≡ 6 → O.written out.new ≡ append_known (O.written out.old) (line_of Answer.Memory) }
 
-    // What `verify` accepts is safe in every run, and what `run` says is the output of the run.
+    // What `verify` accepts is safe in every run, and what `run` says is the output of a run that is safe.
     ensures accepted { (name bytes : List ℕ) → words_mean (texts words.now) ≡ Some (Verify name) → F.content files.old name ≡ Some bytes
         → result ≡ 0 → AcceptedText bytes (O.written out.old) (O.written out.new) }
-    ensures ran { (name bytes : List ℕ) (args : List Arg) → words_mean (texts words.now) ≡ Some (Run name args) → F.content files.old name ≡ Some bytes
-        → (result ≡ 0) ⊎ (result ≡ 14) → Ran (Run name args) bytes result (O.written out.old) (O.written out.new) }
+    ensures ran { (name bytes : List ℕ) (limits : Limits) (args : List Arg) → words_mean (texts words.now) ≡ Some (Run name limits args) → F.content files.old name ≡ Some bytes
+        → IsEndOfRun result → Ran (Run name limits args) bytes result (O.written out.old) (O.written out.new) }
 
     // The status and the lines are those of the report, unless a call of the outside fails or memory runs out.
     ensures reported { (command : Meant) (bytes : List ℕ) (report : Report) → words_mean (texts words.now) ≡ Some command
@@ -95,7 +92,6 @@ pub fn dtal_top<F: Files, O: Sink>(alloc: Global, words: &[&str], files: &mut F,
         → (Rose (O.faults out.old) (O.faults out.new) → ⊥) → (result ≡ 11) ⊎ (result ≡ 6) }
 {
     // Cites the laws: a text spells no other program, and an accepted program runs safely.
-    one_program_a_text();
     program_texts_are_read();
     accepted_programs_run_safely();
     execute(alloc, words, files, out)
@@ -109,26 +105,30 @@ fn execute<F: Files, O: Sink>(alloc: Global, words: &[&str], files: &mut F, out:
 {
     match read_command(alloc, words) {
         Ok(Command::Verify(text)) => say(out, verify_text(alloc, files, text)),
-        Ok(Command::Run(text, args)) => run_text(alloc, files, out, text, args.as_slice()),
+        Ok(Command::Run(text, limits, args)) => {
+            run_text(alloc, files, out, text, limits, args.as_slice())
+        }
         Err(WordsError::NoCommand) => say(out, Answer::NoCommand),
         Err(WordsError::Memory) => say(out, Answer::Memory),
     }
 }
 
-/// Runs the program of a text on these arguments, and says how it came out.
+/// Runs the program of a text within limits on these arguments, and says how it came out.
 fn run_text<F: Files, O: Sink>(
     alloc: Global,
     files: &mut F,
     out: &mut O,
     text: &str,
+    limits: Limits,
     args: &[Arg],
 ) -> u8
+    requires { IsWithin limits }
     ensures unchanged { (name : List ℕ) → F.content files.new name ≡ F.content files.old name }
-    ensures went { Went (Some (Run text.now args.now)) (F.content files.old) (F.read_faults files.old) (F.read_faults files.new)
+    ensures went { Went (Some (Run text.now limits args.now)) (F.content files.old) (F.read_faults files.old) (F.read_faults files.new)
         result (O.faults out.old) (O.faults out.new) (O.written out.old) (O.written out.new) }
 {
-    match load_text(alloc, files, text, args) {
-        Ok(machine) => run_and_say(machine, out),
+    match load_text(alloc, files, text, limits, args) {
+        Ok(machine) => run_and_say(machine, out, limits.steps),
         Err(answer) => say(out, answer),
     }
 }
@@ -144,47 +144,31 @@ fn verify_text<F: Files>(alloc: Global, files: &mut F, text: &str) -> Answer
     }
 }
 
-/// The machine of a text, at the start of a run on these arguments, or the answer where there is none.
+/// The machine of a text, at the start of a run on these arguments, or the answer where there is none. It takes all memory of the run.
 fn load_text<F: Files>(
     alloc: Global,
     files: &mut F,
     text: &str,
+    limits: Limits,
     args: &[Arg],
 ) -> Result<Machine, Answer>
+    requires { IsWithin limits }
     ensures unchanged { (name : List ℕ) → F.content files.new name ≡ F.content files.old name }
-    ensures loaded { IfOk result (IsLoadedFrom text.now args.now (F.content files.old text.now)) }
-    ensures caused { IfErr result (λ answer. Cause (Some (Run text.now args.now)) (F.content files.old) (F.read_faults files.old) (F.read_faults files.new) (plain answer)) }
+    ensures loaded { IfOk result (IsLoadedFrom text.now limits args.now (F.content files.old text.now)) }
+    ensures caused { IfErr result (λ answer. Cause (Some (Run text.now limits args.now)) (F.content files.old) (F.read_faults files.old) (F.read_faults files.new) (plain answer)) }
 {
-    let program = accepted_program(alloc, files, text)?;
-    load(alloc, program, args)
+    let verified = verified_program(alloc, files, text)?;
+    load(alloc, verified.program(), limits, args)
 }
 
-/// The machine of a program, at the start of a run on these arguments, or the first fault of these. It takes all memory of the run.
-fn load(alloc: Global, program: Verified, args: &[Arg]) -> Result<Machine, Answer>
-    requires accepted { IsAccepted program }
-    requires few { length program.code ≤ 1000 }
-    ensures loaded { IfOk result (IsLoaded program args.now) }
-    ensures faulty { IfErr result (IsFaulty program args.now) }
-{
-    match Machine::load(alloc, program, args, HEAP, DEPTH) {
-        Ok(machine) => Ok(machine),
-        Err(LoadError::ArgCount) => Err(Answer::ArgCount),
-        Err(LoadError::ArgKind(argument)) => Err(Answer::ArgKind(argument)),
-        Err(LoadError::ArgIndex(argument)) => Err(Answer::ArgIndex(argument)),
-        Err(LoadError::EntryRow(row)) => Err(Answer::EntryRow(row)),
-        Err(LoadError::NoStore) => unreachable!(),
-        Err(LoadError::Memory) => Err(Answer::Memory),
-    }
-}
-
-/// Runs the machine, and says how the run ended. It takes no memory.
-fn run_and_say<O: Sink>(machine: Machine, out: &mut O) -> u8
+/// Runs the machine, and says how the run came out. It takes no memory.
+fn run_and_say<O: Sink>(machine: Machine, out: &mut O, steps: u64) -> u8
     requires live { IsLive machine.now }
-    requires ends { HasEnded (run_on machine steps []).how }
-    ensures said { RunSaid (run_on machine steps []) result (O.faults out.old) (O.faults out.new) (O.written out.old) (O.written out.new) }
+    requires goes { (run_on machine steps []).how ≢ Stuck }
+    ensures said { RunSaid steps (run_on machine steps []) result (O.faults out.old) (O.faults out.new) (O.written out.old) (O.written out.new) }
 {
-    match run(machine, out) {
-        Ok(end) => say(out, end.answer()),
+    match run(machine, out, steps) {
+        Ok(end) => say(out, end.answer(steps)),
         Err(_fault) => CUT,
     }
 }

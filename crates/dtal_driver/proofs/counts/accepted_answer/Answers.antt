@@ -1,4 +1,4 @@
-use Rattle.std.proofs.Common.{ℕ, ◌<◌, ◌^◌, List, sym, subst}
+use Rattle.std.proofs.Common.{◌<◌, ◌^◌, List, sym, subst}
 use Rattle.dtal_code.specs.declared.program.Function.{Function}
 use Rattle.dtal_driver.specs.VerifiedTexts.{instructions_of}
 use Rattle.dtal_driver.proofs.InstructionCounts.{few_instructions}

@@ -7,7 +7,7 @@ use Rattle.dtal_driver.proofs.top.run_and_say.Goals as goal
 
 pub returns-in-Ok : goal.returns-in-Ok
 returns-in-Ok g c = record {
-  said = run-said _ _ (g.O.Sink.written c.run.new.out) _ _ _ _ c.in-Ok.end (g.O.Sink.faults c.run.new.out) c.in-Ok.ensures.ended c.in-Ok.ensures.appended
+  said = run-said c.args.steps _ _ (g.O.Sink.written c.run.new.out) _ _ _ _ c.in-Ok.end (g.O.Sink.faults c.run.new.out) c.in-Ok.ensures.ended c.in-Ok.ensures.appended
       c.in-Ok.ensures.counted
       (subst
       (λ (a : Answer). Says (plain a) c.say.result (g.O.Sink.faults c.run.new.out) (g.O.Sink.faults c.say.new.out) (g.O.Sink.written c.run.new.out)
@@ -15,4 +15,4 @@ returns-in-Ok g c = record {
 }
 
 pub returns-in-Err : goal.returns-in-Err
-returns-in-Err g c = record { said = run-cut _ _ (g.O.Sink.written c.args.out.now) _ _ _ _ c.requires.ends refl c.in-Err.ensures.prefix c.in-Err.ensures.failed }
+returns-in-Err g c = record { said = run-cut c.args.steps _ _ (g.O.Sink.written c.args.out.now) _ _ _ _ c.requires.goes refl c.in-Err.ensures.prefix c.in-Err.ensures.failed }

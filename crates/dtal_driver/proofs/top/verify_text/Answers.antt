@@ -1,5 +1,6 @@
 use Rattle.std.proofs.Common.{ap, ◌∙◌}
 use Rattle.dtal_driver.specs.VerifiedTexts.{accepted_answer}
+use Rattle.dtal_driver.specs.Words.{Verify}
 use Rattle.dtal_driver.proofs.Commands.{verified-cause, denied-cause}
 use Rattle.dtal_driver.proofs.top.verify_text.Goals as goal
 
@@ -10,4 +11,4 @@ returns-in-Ok-clause-caused g c =
 
 pub returns-in-Err-clause-caused : goal.returns-in-Err-clause-caused
 returns-in-Err-clause-caused g c =
-    denied-cause (g.F.Files.content c.args.files.now) c.args.text.now _ _ c.in-Err.answer c.in-Err.ensures.denied
+    denied-cause (g.F.Files.content c.args.files.now) (Verify c.args.text.now) _ _ c.in-Err.answer c.in-Err.ensures.denied
