@@ -10,6 +10,8 @@ mod blocks;
 #[cfg(test)]
 mod calls;
 #[cfg(test)]
+mod comparisons;
+#[cfg(test)]
 mod outside;
 #[cfg(test)]
 mod prefixes;
