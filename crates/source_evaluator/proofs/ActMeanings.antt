@@ -13,8 +13,8 @@ use Rattle.typed_core.specs.SourceValues.{Tag, Number, Truth as TruthTag, Array,
 use Rattle.typed_core.specs.SourceRuns.{Run, Answer, one_of}
 use Rattle.typed_core.specs.SourceOperands as spec
 use Rattle.typed_core.specs.SourceTests.{decided}
-use Rattle.source_evaluator.specs.Values as values
-use Rattle.source_evaluator.specs.Values.{Ending, or_stuck, word_if, truth_value}
+use Rattle.source_values.specs.Values as values
+use Rattle.source_values.specs.Values.{Ending, or_stuck, word_if, truth_value}
 
 abbrev pub R : Type 0
 R = Run (Unit {0})

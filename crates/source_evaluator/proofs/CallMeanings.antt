@@ -11,8 +11,8 @@ use Rattle.typed_core.specs.SourceStatements.{behind}
 use Rattle.typed_core.specs.SourceCalls.{body, body_if, env_of, result}
 use Rattle.typed_core.specs.SourceFreely.{free_body, free_call, freely_begun, freely_called}
 use Rattle.typed_core.proofs.FreeBounds.{call_free}
-use Rattle.source_evaluator.specs.Values as values
-use Rattle.source_evaluator.specs.Values.{Ending}
+use Rattle.source_values.specs.Values as values
+use Rattle.source_values.specs.Values.{Ending}
 use Rattle.source_evaluator.specs.Steps as steps
 use Rattle.source_evaluator.specs.Steps.{Machine, Event, Goes, Says, Returns, doing, is_back, unwound, with_values}
 use Rattle.source_evaluator.specs.Work.{Work, Operand, Operands, Links, Join, Negate, Relate, ReadCell, Measure, MakeTuple, MakeArray, CallWith, Decide, Decided, AllParts, AnyParts, WhereTrue, WhereFalse, Opposite, Statements, SetTo, SplitTo, PutCell, Forget, Say, Choose, Loop, Turn, GiveBack, Back}

@@ -7,7 +7,7 @@ use Rattle.xanadu_tree.specs.declared.expr.Op.{Op}
 use Rattle.xanadu_tree.specs.declared.stmt.CoreStmt.{CoreStmt}
 use Rattle.xanadu_tree.specs.declared.stmt.Test.{Test}
 use Rattle.source_evaluator.specs.Views.{link_of}
-use Rattle.source_evaluator.specs.Values.{truth_value}
+use Rattle.source_values.specs.Values.{truth_value}
 use Rattle.source_evaluator.specs.Steps.{Machine, all_parts, any_parts, begun, doing, linked, operands, statements, with_value}
 use Rattle.source_evaluator.specs.Work.{Work, Operand, Operands, Links, Join, Decide, WhereTrue, WhereFalse, Statements}
 

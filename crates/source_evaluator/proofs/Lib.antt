@@ -1,6 +1,4 @@
 pub mod Stacks
-pub mod WrittenCells
-pub mod Unset
 pub mod Counts
 pub mod Firsts
 pub mod Unwinding
@@ -10,3 +8,7 @@ pub mod PlacesSame
 pub mod StatementMeanings
 pub mod CallMeanings
 pub mod WorkSizes
+pub mod DrivenRuns
+pub mod BegunRuns
+pub mod MainSignature
+pub mod StartedRuns

@@ -15,8 +15,9 @@ use Rattle.typed_core.specs.SourceStatements as source
 use Rattle.typed_core.specs.SourceStatements.{statement, block, behind, completes, turned, number_printed}
 use Rattle.typed_core.specs.SourceFreely.{free_block, free_statement}
 use Rattle.typed_core.proofs.FreeBounds.{behind_free, branch_free, turn_free}
-use Rattle.source_evaluator.specs.Values as values
-use Rattle.source_evaluator.specs.Values.{Ending, truth_value}
+use Rattle.source_values.specs.Values as values
+use Rattle.source_values.specs.Values.{Ending, truth_value}
+use Rattle.source_values.specs.Variables as variables
 use Rattle.source_evaluator.specs.Steps as steps
 use Rattle.source_evaluator.specs.Steps.{Machine, acted, allocated, begun, doing, with_values}
 use Rattle.source_evaluator.specs.Work.{Work, Decide, Forget, PutCell, SetTo, SplitTo, Say, Choose, Loop, Turn, GiveBack, Statements}
@@ -28,13 +29,13 @@ use Rattle.source_evaluator.proofs.StepMeanings.{Follows, after_then, bind_same,
 -- ---- parts of statements
 
 set_by : (b : Truth) (env : Env) (x : ℕ) (v : Value) (xs : List ℕ) (vs : List Value) (st : R)
-    → ((more : Env) (st : R) → source.set_all more xs vs st ≡ lifted (steps.set_all more xs vs) st)
-    → (source.set_if b env x v st >>= λ y. source.set_all y.0 xs vs y.1) ≡ lifted (steps.set_if b env x v >>= λ more. steps.set_all more xs vs) st
+    → ((more : Env) (st : R) → source.set_all more xs vs st ≡ lifted (variables.set_all more xs vs) st)
+    → (source.set_if b env x v st >>= λ y. source.set_all y.0 xs vs y.1) ≡ lifted (variables.set_if b env x v >>= λ more. variables.set_all more xs vs) st
 set_by true env x v xs vs st later = later _ st
 set_by false env x v xs vs st later = refl
 
-pub set_all_is : (env : Env) (xs : List ℕ) (vs : List Value) (st : R) → source.set_all env xs vs st ≡ lifted (steps.set_all env xs vs) st
-unfolding source.set_all steps.set_all
+pub set_all_is : (env : Env) (xs : List ℕ) (vs : List Value) (st : R) → source.set_all env xs vs st ≡ lifted (variables.set_all env xs vs) st
+unfolding source.set_all variables.set_all
 set_all_is env [] [] st = refl
 set_all_is env [] (v ∷ vs) st = refl
 set_all_is env (x ∷ xs) [] st = refl
@@ -190,7 +191,7 @@ module _ (funs : List core.Fun) (depth : ℕ) where
 
   lift_set : (b : Truth) (ws : List Work) (vs : List Value) (env : Env) (cs : List Env) (x : ℕ) (v : Value) (st : R)
       → ((source.set_if b env x v st >>= λ y. completes y.0 y.1) >>= flow_on ws vs cs)
-      ≡ after (steps.set_if b env x v) (λ env st. working funs depth ws vs env cs st) st
+      ≡ after (variables.set_if b env x v) (λ env st. working funs depth ws vs env cs st) st
   lift_set true ws vs env cs x v st = refl
   lift_set false ws vs env cs x v st = refl
 
@@ -201,10 +202,10 @@ module _ (funs : List core.Fun) (depth : ℕ) where
 
   lift_parts : (ws : List Work) (vs : List Value) (env : Env) (cs : List Env) (xs : List ℕ) (e : Ending (List Value)) (st : R)
       → ((lifted e st >>= λ y. source.set_all env xs y.0 y.1 >>= λ z. completes z.0 z.1) >>= flow_on ws vs cs)
-      ≡ after e (λ parts st. after (steps.set_all env xs parts) (λ env st. working funs depth ws vs env cs st) st) st
+      ≡ after e (λ parts st. after (variables.set_all env xs parts) (λ env st. working funs depth ws vs env cs st) st) st
   lift_parts ws vs env cs xs (Ok parts) st =
       ap (λ (r : Answer (Unit {0}) Env). (r >>= λ z. completes z.0 z.1) >>= flow_on ws vs cs) (set_all_is env xs parts st)
-      ∙ lift_sets ws vs cs (steps.set_all env xs parts) st
+      ∙ lift_sets ws vs cs (variables.set_all env xs parts) st
   lift_parts ws vs env cs xs (Err how) st = refl
 
   lift_put : (ws : List Work) (vs : List Value) (env : Env) (cs : List Env) (e : Ending Blocks) (st : R)
@@ -351,11 +352,11 @@ module _ (funs : List core.Fun) (depth : ℕ) where
   unfolding working
   set_follows x m p =
       after_then funs depth p (run_of funs depth m p) refl (steps.one_of m.values) _ _
-      (λ t. after_then funs depth p (run_of funs depth m p) refl (steps.set_variable m.env x t.0) _ _ (λ env. refl))
+      (λ t. after_then funs depth p (run_of funs depth m p) refl (variables.set_variable m.env x t.0) _ _ (λ env. refl))
 
   pub split_follows : (xs : List ℕ) (m : Machine) (p : List ℤ) → Follows funs depth p (steps.split_to xs m) (meant funs depth (SplitTo xs) m p)
   unfolding working
   split_follows xs m p =
       after_then funs depth p (run_of funs depth m p) refl (steps.one_of m.values) _ _
       (λ t. after_then funs depth p (run_of funs depth m p) refl (values.parts_of (length xs) t.0 m.store) _ _
-      (λ parts. after_then funs depth p (run_of funs depth m p) refl (steps.set_all m.env xs parts) _ _ (λ env. refl)))
+      (λ parts. after_then funs depth p (run_of funs depth m p) refl (variables.set_all m.env xs parts) _ _ (λ env. refl)))

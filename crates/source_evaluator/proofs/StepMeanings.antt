@@ -13,10 +13,11 @@ use Rattle.typed_core.specs.SourceRuns.{Run, End, Answer, Calls, Env, Flow, Next
 use Rattle.typed_core.specs.SourceOperands.{value, chained, read}
 use Rattle.typed_core.specs.SourceOperands as operands
 use Rattle.typed_core.specs.SourceTests.{holds, all_hold, any_holds, unless}
-use Rattle.source_evaluator.specs.Values as values
-use Rattle.source_evaluator.specs.Values.{Ending, truth_value}
+use Rattle.source_values.specs.Values as values
+use Rattle.source_values.specs.Values.{Ending, truth_value}
+use Rattle.source_values.specs.Variables.{read_of}
 use Rattle.source_evaluator.specs.Steps as steps
-use Rattle.source_evaluator.specs.Steps.{Machine, acted, allocated, evaluated, going, read_of, with_value, with_values}
+use Rattle.source_evaluator.specs.Steps.{Machine, acted, allocated, evaluated, going, with_value, with_values}
 use Rattle.source_evaluator.specs.Work.{Work, Operand, Operands, Links, Join, Negate, Relate, ReadCell, Measure, MakeTuple, MakeArray, CallWith, Decide, Decided, AllParts, AnyParts, WhereTrue, WhereFalse, Opposite, Statements, SetTo, SplitTo, PutCell, Forget, Say, Choose, Loop, Turn, GiveBack, Back}
 use Rattle.source_evaluator.proofs.ActMeanings.{lifted, stored, arithmetic_is, array_is, decided_is, loaded_is, measured_is, related_is, tuple_is}
 use Rattle.source_evaluator.specs.Pending.{R, after, calls, given, meaning, meant, run_of, unless_false, unless_true, working}

@@ -5,7 +5,8 @@ use Rattle.xan_seq.specs.Answers.{◌>>=◌}
 use Rattle.xanadu_tree.specs.Plain as core
 use Rattle.typed_core.specs.SourceValues.{Value}
 use Rattle.typed_core.specs.SourceRuns.{Env}
-use Rattle.source_evaluator.specs.Values.{Ending, or_stuck}
+use Rattle.source_values.specs.Values.{Ending, or_stuck}
+use Rattle.source_values.specs.Variables as variables
 use Rattle.source_evaluator.specs.Steps as steps
 use Rattle.source_evaluator.specs.Steps.{Machine, Event, Goes, Says, acted, allocated, unwound, with_values}
 use Rattle.source_evaluator.specs.Work.{Work, Operand, Operands, Links, Join, Negate, Relate, ReadCell, Measure, MakeTuple, MakeArray, CallWith, Decide, Decided, AllParts, AnyParts, WhereTrue, WhereFalse, Opposite, Statements, SetTo, SplitTo, PutCell, Forget, Say, Choose, Loop, Turn, GiveBack, Back}
@@ -109,7 +110,7 @@ operand_less : (k : ℕ) (e : core.Expr) (m : Machine) → size_of e ≤ k → F
 unfolding steps.evaluated
 operand_less k (core.Int n) m h fits = (omega arith, fits)
 operand_less k (core.Bool b) m h fits = (omega arith, fits)
-operand_less k (core.Var x) m h fits = less_then k _ (steps.read_of (slice_get m.env x)) _ (λ v. (omega arith, fits))
+operand_less k (core.Var x) m h fits = less_then k _ (variables.read_of (slice_get m.env x)) _ (λ v. (omega arith, fits))
 operand_less k (core.Neg e) m h fits = (omega arith, (omega (arith, h), (omega (arith, h), fits)))
 operand_less k (core.Chain first rest) m h fits = (omega arith, (omega (arith, h), (omega (arith, h), fits)))
 operand_less k (core.Compare r left right) m h fits = (omega arith, (omega (arith, h), (omega (arith, h), (omega (arith, h), fits))))
@@ -252,9 +253,9 @@ going_less k funs depth (WhereFalse ts) m bodies h fits = less_then k _ (steps.t
 going_less k funs depth Opposite m bodies h fits = acting_less k Opposite m fits
 going_less k funs depth (Statements ss) m bodies h fits = block_less k ss m h fits
 going_less k funs depth (SetTo x) m bodies h fits =
-    less_then k _ (steps.one_of m.values) _ (λ t. less_then k _ (steps.set_variable m.env x t.0) _ (λ env. (omega arith, fits)))
+    less_then k _ (steps.one_of m.values) _ (λ t. less_then k _ (variables.set_variable m.env x t.0) _ (λ env. (omega arith, fits)))
 going_less k funs depth (SplitTo xs) m bodies h fits =
-    less_then k _ (steps.one_of m.values) _ (λ t. less_then k _ _ _ (λ parts. less_then k _ (steps.set_all m.env xs parts) _ (λ env. (omega arith, fits))))
+    less_then k _ (steps.one_of m.values) _ (λ t. less_then k _ _ _ (λ parts. less_then k _ (variables.set_all m.env xs parts) _ (λ env. (omega arith, fits))))
 going_less k funs depth PutCell m bodies h fits = allocating_less k PutCell m fits
 going_less k funs depth Forget m bodies h fits = acting_less k Forget m fits
 going_less k funs depth Say m bodies h fits = tt

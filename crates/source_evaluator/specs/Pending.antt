@@ -13,10 +13,11 @@ use Rattle.typed_core.specs.SourceTests.{holds, all_hold, any_holds}
 use Rattle.typed_core.specs.SourceStatements.{turned}
 use Rattle.typed_core.specs.SourceCalls.{env_of}
 use Rattle.typed_core.specs.SourceFreely.{free_call, free_block, free_statement}
-use Rattle.source_evaluator.specs.Values as values
-use Rattle.source_evaluator.specs.Values.{Ending, truth_value}
+use Rattle.source_values.specs.Values as values
+use Rattle.source_values.specs.Values.{Ending, truth_value}
+use Rattle.source_values.specs.Variables.{set_variable, set_all}
 use Rattle.source_evaluator.specs.Steps as steps
-use Rattle.source_evaluator.specs.Steps.{Machine, Event, Goes, Says, Returns, acted, allocated, one_of, set_variable, set_all, taken, truth_of}
+use Rattle.source_evaluator.specs.Steps.{Machine, Event, Goes, Says, Returns, acted, allocated, one_of, taken, truth_of}
 use Rattle.source_evaluator.specs.Work.{Work, Operand, Operands, Links, Join, Negate, Relate, ReadCell, Measure, MakeTuple, MakeArray, CallWith, Decide, Decided, AllParts, AnyParts, WhereTrue, WhereFalse, Opposite, Statements, SetTo, SplitTo, PutCell, Forget, Say, Choose, Loop, Turn, GiveBack, Back}
 
 abbrev pub R : Type 0

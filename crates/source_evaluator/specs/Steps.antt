@@ -9,8 +9,9 @@ use Rattle.typed_core.specs.SourceValues.{Value, Blocks, number}
 use Rattle.typed_core.specs.SourceValues as tags
 use Rattle.typed_core.specs.SourceRuns.{Env}
 use Rattle.typed_core.specs.SourceCalls.{env_of}
-use Rattle.source_evaluator.specs.Values as values
-use Rattle.source_evaluator.specs.Values.{Ending, stuck, or_stuck, truth_value}
+use Rattle.source_values.specs.Values as values
+use Rattle.source_values.specs.Values.{Ending, stuck, or_stuck, truth_value}
+use Rattle.source_values.specs.Variables.{read_of, set_variable, set_all}
 use Rattle.source_evaluator.specs.Work.{Work, Operand, Operands, Links, Join, Negate, Relate, ReadCell, Measure, MakeTuple, MakeArray, CallWith, Decide, Decided, AllParts, AnyParts, WhereTrue, WhereFalse, Opposite, Statements, SetTo, SplitTo, PutCell, Forget, Say, Choose, Loop, Turn, GiveBack, Back}
 
 pub record Machine : Type 0 where
@@ -58,11 +59,6 @@ abbrev pub with_values : List Value → Machine → Machine
 with_values vs m = record m { values = vs }
 
 -- ---- expressions
-
--- a variable that has a value
-abbrev pub read_of : Option (Option Value) → Ending Value
-read_of (Some (Some v)) = Ok v
-read_of _ = stuck
 
 abbrev pub with_read : Machine → Ending Value → Moved
 with_read m read = read >>= λ v. Ok (with_value v m)
@@ -208,20 +204,6 @@ begun (core.Return (Some e) at) m = doing (Operand e ∷ GiveBack ∷ []) m
 unfoldable pub statements : core.Stmts → Machine → Machine
 statements core.NoStmt m = m
 statements (core.AStmt s ss) m = begun s (doing (Statements ss ∷ []) m)
-
--- a variable of the function
-abbrev pub set_if : (there : Truth) → Env → (variable : ℕ) → Value → Ending Env
-set_if true env x v = Ok (slice_set env x (Some v))
-set_if false env x v = stuck
-
-abbrev pub set_variable : Env → (variable : ℕ) → Value → Ending Env
-set_variable env x v = set_if (nat_lt x (length env)) env x v
-
-unfoldable pub set_all : Env → (variables : List ℕ) → List Value → Ending Env
-set_all env [] [] = Ok env
-set_all env [] (v ∷ vs) = stuck
-set_all env (x ∷ xs) [] = stuck
-set_all env (x ∷ xs) (v ∷ vs) = set_variable env x v >>= λ more. set_all more xs vs
 
 abbrev pub in_env : Env → Machine → Machine
 in_env env m = record m { env = env }

@@ -1,18 +1,16 @@
 //! What goes on behind a truth value, assignments, and what a function gives.
 
 ghost use Rattle.std.specs.Prelude.{◌≡◌, ◌∷◌, [], map, true, false, Some, None};
-ghost use Rattle.source_evaluator.specs.Halts.{Gives};
+ghost use Rattle.source_values.specs.Halts.{Gives};
 ghost use Rattle.source_evaluator.specs.Steps as spec;
 ghost use Rattle.source_evaluator.specs.Views.{event_of, state_of, work_of, works};
 ghost use Rattle.xanadu_tree.specs.PlainOf.{plain_block, plain_test, to_tests};
 
-use crate::halt::Halt;
 use crate::machine::{Event, Machine, push_one, push_two};
 use crate::operands::pop_one;
 use crate::stack::Stack;
 use crate::tasks::Task;
-use crate::values::{Tag, Value};
-use crate::variables::set_all;
+use source_values::{Halt, Tag, Value, set_all};
 use xanadu_tree::{CoreStmt, Test};
 
 /// The truth value on top goes.

@@ -1,16 +1,15 @@
 //! Expressions and tests: what they leave to do.
 
 ghost use Rattle.std.specs.Prelude.{◌≡◌, ◌∷◌, [], map, pos, IfOk};
-ghost use Rattle.source_evaluator.specs.Halts.{Gives};
+ghost use Rattle.source_values.specs.Halts.{Gives};
 ghost use Rattle.source_evaluator.specs.Steps as spec;
 ghost use Rattle.source_evaluator.specs.Views.{link_of, state_of};
 ghost use Rattle.source_evaluator.specs.Work.{Operand, Join, Links};
 ghost use Rattle.xanadu_tree.specs.PlainOf.{plain_expr, plain_test, to_exprs, to_links, to_tests};
 
-use crate::halt::Halt;
 use crate::machine::{Machine, push_three, push_two};
 use crate::tasks::Task;
-use crate::values::Value;
+use source_values::{Halt, Value};
 use std::alloc::AllocError;
 use xanadu_tree::{CoreExpr, Op, Test};
 

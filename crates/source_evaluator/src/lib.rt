@@ -5,19 +5,19 @@
 //! cores, and on `xan_io` for arguments and output.
 #![tactic(auto)]
 
-mod acts;
-mod cells;
 mod control;
+mod end;
+mod evaluation;
 mod expressions;
-mod halt;
 mod laws;
 mod machine;
 mod operands;
+mod run;
 mod stack;
 mod statements;
 mod step;
 mod tasks;
-mod values;
-mod variables;
 
+pub use crate::end::{EvalError, SourceEnd};
+pub use crate::evaluation::eval;
 pub use crate::laws::{a_step_tells_what_the_machine_comes_to, the_first_machine_is_the_run};

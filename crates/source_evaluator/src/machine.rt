@@ -3,11 +3,9 @@
 ghost use Rattle.std.specs.Prelude.{◌≡◌, ◌∷◌, IfOk};
 ghost use Rattle.source_evaluator.specs.Views.{work_of, works};
 
-use crate::cells::Store;
 use crate::stack::Stack;
 use crate::tasks::Task;
-use crate::values::Value;
-use crate::variables::Variables;
+use source_values::{Store, Value, Variables};
 use std::alloc::AllocError;
 
 /// What a step tells.

@@ -1,16 +1,13 @@
 //! Constructs, by the values on top.
 
 ghost use Rattle.std.specs.Prelude.{◌≡◌, IfOk};
-ghost use Rattle.source_evaluator.specs.Halts.{Gives};
+ghost use Rattle.source_values.specs.Halts.{Gives};
 ghost use Rattle.source_evaluator.specs.Steps as spec;
 ghost use Rattle.source_evaluator.specs.Views.{work_of};
 
-use crate::acts::{join, negate, relate};
-use crate::cells::Store;
-use crate::halt::Halt;
 use crate::stack::Stack;
 use crate::tasks::Task;
-use crate::values::Value;
+use source_values::{Halt, Store, Value, join, negate, relate};
 use std::alloc::{AllocError, Global};
 use xanadu_tree::{Op, Rel};
 

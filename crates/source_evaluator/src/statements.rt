@@ -1,7 +1,7 @@
 //! Statements: what they leave to do.
 
 ghost use Rattle.std.specs.Prelude.{◌≡◌, ◌∷◌, [], map, pos, IfOk};
-ghost use Rattle.source_evaluator.specs.Halts.{Gives};
+ghost use Rattle.source_values.specs.Halts.{Gives};
 ghost use Rattle.source_evaluator.specs.Steps as spec;
 ghost use Rattle.source_evaluator.specs.Views.{state_of};
 ghost use Rattle.source_evaluator.specs.Work.{Statements};
@@ -9,7 +9,7 @@ ghost use Rattle.xanadu_tree.specs.PlainOf.{plain_block, plain_stmt};
 
 use crate::machine::{Machine, push_four, push_one, push_two};
 use crate::tasks::Task;
-use crate::values::Value;
+use source_values::Value;
 use std::alloc::AllocError;
 use xanadu_tree::CoreStmt;
 

@@ -1,7 +1,7 @@
 //! A step of a run: the work on top is done.
 
 ghost use Rattle.std.specs.Prelude.{◌≡◌, ◌==◌, suc, nat_lt, map, length};
-ghost use Rattle.source_evaluator.specs.Halts.{Gives};
+ghost use Rattle.source_values.specs.Halts.{Gives};
 ghost use Rattle.source_evaluator.specs.Steps as spec;
 ghost use Rattle.source_evaluator.specs.Views.{event_of, state_of, work_of};
 ghost use Rattle.xanadu_tree.specs.PlainOf.{plain_fun, plain_block};
@@ -10,13 +10,11 @@ use crate::control::{
     choose, give_back, go_on_where_false, go_on_where_true, pay, say, set_to, split_to, turn,
 };
 use crate::expressions::{begin_all, begin_any, begin_links, begin_operands, decide, evaluate};
-use crate::halt::Halt;
 use crate::machine::{Event, Machine, push_two};
 use crate::operands::{act, allocate, take_values};
 use crate::statements::begin_block;
 use crate::tasks::Task;
-use crate::values::Value;
-use crate::variables::Variables;
+use source_values::{Halt, Value, Variables};
 use std::mem;
 use xanadu_tree::CoreFun;
 
