@@ -1,0 +1,261 @@
+-- What elaboration keeps of every state: its rows are forms and state themselves, its types are good, places rise, and variables are few.
+-- Expressions and tests keep it.
+use Rattle.std.proofs.Common.{◌≡◌, ◌∙◌, ℕ, zero, suc, ◌+◌, ◌≤◌, nat_lt, cond, List, [], ◌∷◌, ◌++◌, map, length, Bool as Truth, true, false, Option, Some, None, Result, Ok, Err, refl, sym, ap, subst, arith}
+use Rattle.std.specs.List.{AllByRecursion}
+use Rattle.index_sorts.specs.Context.{IndexContext, with_variables}
+use Rattle.index_sorts.specs.declared.error.ContextError.{ContextError}
+use Rattle.index_sorts.specs.declared.error.ContextError.TheVariants as context_error
+use Rattle.xan_lin.specs.Linear.{Linear, IsForm}
+use Rattle.xan_lin.specs.Subst.{zero_form}
+use Rattle.xan_lin.specs.declared.term.TooLarge.{TooLarge}
+use Rattle.xan_lin.proofs.Booleans.{is_not_less}
+use Rattle.state_types.specs.Answers.{◌>>=◌}
+use Rattle.state_types.specs.PlaceTypes.{type_at, PlacesRise}
+use Rattle.state_types.specs.declared.closed.Packed.{Packed}
+use Rattle.state_types.specs.declared.types.Ty.{Ty}
+use Rattle.state_types.specs.declared.types.Ty.TheVariants as ty
+use Rattle.operation_rules.specs.Applied.{widened, all_assuming, all_given}
+use Rattle.operation_rules.specs.Faults.{Ruling, filled, needed}
+use Rattle.operation_rules.specs.Rules.{rule}
+use Rattle.operation_rules.specs.Sides.{side}
+use Rattle.operation_rules.specs.declared.operation.Operation.{Operation}
+use Rattle.operation_rules.specs.declared.operation.Operation.TheVariants as operation
+use Rattle.operation_rules.specs.declared.rule.Rule.{Rule}
+use Rattle.std.specs.List.{list_all}
+use Rattle.xanadu_tree.specs.declared.expr.Rel.{Rel}
+use Rattle.xanadu_tree.specs.declared.expr.Rel.TheVariants as rel
+use Rattle.xanadu_tree.specs.Plain as core
+use Rattle.typed_core.specs.Constructs.{setting_of, followed, asking, types_by, first_type, type_by, state_by}
+use Rattle.typed_core.specs.Limits.{by_rule, held}
+use Rattle.typed_core.specs.Operands.{operand, operands, chained}
+use Rattle.typed_core.specs.Operators.{operation_of, demands_at, comparison_of, in_order}
+use Rattle.typed_core.specs.States.{Site, State, demanding, there, noting_state}
+use Rattle.typed_core.specs.Strays.{type_below}
+use Rattle.typed_core.specs.Tests.{Sides, branched, truth_leaf, leaf, on_side, tested, all_true, all_false}
+use Rattle.typed_core.proofs.Continued.{Goes}
+use Rattle.typed_core.proofs.GrownContexts.{filled_goes, by_rule_goes}
+use Rattle.typed_core.proofs.KnownTypes.{entry_at}
+use Rattle.typed_core.proofs.LimitedAnswers.{Anything, then_answers, weaker, any_answer}
+use Rattle.typed_core.proofs.NamedStates.{known_answer}
+use Rattle.carrier_laws.proofs.RowsStand.{StandAgain, AreSound, Behind, assumed_stand}
+use Rattle.carrier_laws.proofs.RulesKept.{IsGood, IsFormIfAny, IsGoodIfAny, AreGood, MakesGood, rule_good, side_good}
+
+pub record Kept (table : List Packed) (st : State) : Type 0 where
+  pub rows : AreSound st.ctx.rows
+  pub types : AllByRecursion (λ (e : ℕ × Ty). IsGood table e.1) st.types
+  pub rise : PlacesRise 0 st.types
+  pub few : st.ctx.vars ≤ 1024
+
+pub zero_is_form : IsForm zero_form
+zero_is_form = record { rising = tt; few = omega arith; small = refl; small_constant = refl }
+
+-- ---- contexts
+
+fresh_by : (b : Truth) (count : ℕ) (ctx : IndexContext) → nat_lt 1024 (ctx.vars + count) ≡ b
+    → Goes (λ wide. (wide ≡ with_variables ctx count) × (wide.vars ≤ 1024))
+    ((let r : Result ℕ ContextError = cond b (Err context_error.Variables) (Ok ctx.vars) in r) >>= (λ first. let r : Result IndexContext ContextError = Ok (with_variables ctx count) in r))
+fresh_by true count ctx e = record { is = tt }
+fresh_by false count ctx e = record { is = (refl, is_not_less 1024 (ctx.vars + count) e) }
+
+pub widened_few : (count : ℕ) (ctx : IndexContext) → Goes (λ wide. (wide ≡ with_variables ctx count) × (wide.vars ≤ 1024)) (widened count ctx)
+unfolding widened
+widened_few count ctx = fresh_by (nat_lt 1024 (ctx.vars + count)) count ctx refl
+
+needed_goes : {A : Type 0} {P : A → Type 0} (m : Result A TooLarge) → Goes P m → Goes P (needed m)
+needed_goes (Ok x) h = record { is = h.is }
+needed_goes (Err why) h = record { is = tt }
+
+given_good : (table : List Packed) (ts : List (Result Ty TooLarge)) → AllByRecursion (IsGoodIfAny table) ts → Goes (AllByRecursion (IsGood table)) (all_given ts)
+unfolding all_given
+given_good table [] all = record { is = tt }
+given_good table (t ∷ ts) all =
+    then_answers t _ (one t all.0) (λ u g. then_answers (all_given ts) _ (given_good table ts all.1) (λ us h. record { is = (g, h) }))
+  where
+    one : (m : Result Ty TooLarge) → IsGoodIfAny table m → Goes (IsGood table) m
+    one (Ok u) g = record { is = g }
+    one (Err why) g = record { is = tt }
+
+record GoesOn (table : List Packed) (p : List Ty × IndexContext) : Type 0 where
+  rows : AreSound p.1.rows
+  few : p.1.vars ≤ 1024
+  types : AllByRecursion (IsGood table) p.0
+
+followed_good : (table : List Packed) (r : Rule) (ctx : IndexContext) → MakesGood table r → AreSound ctx.rows → Goes (GoesOn table) (followed r ctx)
+unfolding followed
+followed_good table r ctx makes sound =
+    then_answers (filled (widened r.fresh ctx)) _ (filled_goes (widened r.fresh ctx) (widened_few r.fresh ctx))
+    (λ wide w. then_answers (filled (all_assuming r.assumed wide)) _
+    (filled_goes (all_assuming r.assumed wide) (assumed_stand r.assumed wide makes.assumed (subst (λ (c : IndexContext). AreSound c.rows) (sym w.0) sound)))
+    (λ more b. then_answers (needed (all_given r.given)) _ (needed_goes (all_given r.given) (given_good table r.given makes.given))
+    (λ types g. record { is = record { rows = b.sound; few = (let v = b.vars in let f = w.1 in omega (arith, v, f)); types = g } })))
+
+-- ---- constructs
+
+all_push : {A : Type 0} (P : A → Type 0) (xs : List A) (y : A) → AllByRecursion P xs → P y → AllByRecursion P (xs ++ y ∷ [])
+all_push P [] y all p = (p, tt)
+all_push P (x ∷ xs) y all p = (all.0, all_push P xs y all.1 p)
+
+module _ (site : Site) (are : AreGood site.table site.sigs) where
+  abbrev Good : Ty → Type 0
+  Good t = IsGood site.table t
+
+  abbrev Well : State → Type 0
+  Well st = Kept site.table st
+
+  abbrev WellTyped : Ty × State → Type 0
+  WellTyped r = Well r.1 × Good r.0
+
+  abbrev AllWellTyped : List Ty × State → Type 0
+  AllWellTyped r = Well r.1 × AllByRecursion Good r.0
+
+  asked_kept : (at : Option ℕ) (rows : List Linear) (ctx : IndexContext) (st : State) → Well st → AreSound ctx.rows → ctx.vars ≤ 1024 → Well (record (asking site at rows st) { ctx = ctx })
+  unfolding demanding
+  asked_kept None rows ctx st k sound few = record { rows = sound; types = k.types; rise = k.rise; few = few }
+  asked_kept (Some at) rows ctx st k sound few = record { rows = sound; types = k.types; rise = k.rise; few = few }
+
+  pub types_kept : (at : Option ℕ) (op : Operation) (types : List Ty) (st : State) → Well st → AllByRecursion Good types → Goes AllWellTyped (types_by site at op types st)
+  unfolding types_by
+  types_kept at op types st k good =
+      then_answers (held (list_all (type_below st.ctx.vars) types)) _ (any_answer (held (list_all (type_below st.ctx.vars) types)))
+      (λ named u. then_answers (by_rule (rule (setting_of site) op types st.ctx.vars)) _
+      (by_rule_goes (rule (setting_of site) op types st.ctx.vars) (known_answer (rule (setting_of site) op types st.ctx.vars)))
+      (λ r is. then_answers (by_rule (followed r st.ctx)) _
+      (by_rule_goes (followed r st.ctx) (followed_good site.table r st.ctx (rule_good (setting_of site) are op types st.ctx.vars r is good) k.rows))
+      (λ p g. record { is = (asked_kept at r.demands p.1 st k g.rows g.few, g.types) })))
+
+  first_kept : (types : List Ty) → AllByRecursion Good types → Goes Good (first_type types)
+  first_kept [] all = record { is = tt }
+  first_kept (t ∷ ts) all = record { is = all.0 }
+
+  pub type_kept : (at : Option ℕ) (op : Operation) (types : List Ty) (st : State) → Well st → AllByRecursion Good types → Goes WellTyped (type_by site at op types st)
+  unfolding type_by
+  type_kept at op types st k good =
+      then_answers (types_by site at op types st) _ (types_kept at op types st k good)
+      (λ r h. then_answers (first_type r.0) _ (first_kept r.0 h.1) (λ t g. record { is = (h.0, g) }))
+
+  pub state_kept : (at : Option ℕ) (op : Operation) (types : List Ty) (st : State) → Well st → AllByRecursion Good types → Goes Well (state_by site at op types st)
+  unfolding state_by
+  state_kept at op types st k good = then_answers (types_by site at op types st) _ (types_kept at op types st k good) (λ r h. record { is = h.0 })
+
+  -- ---- expressions
+
+  ordered : (r : Rel) (t u : Ty) → Good t → Good u → AllByRecursion Good (in_order r t u)
+  ordered rel.Lt t u a b = (a, (b, tt))
+  ordered rel.Le t u a b = (a, (b, tt))
+  ordered rel.Gt t u a b = (b, (a, tt))
+  ordered rel.Ge t u a b = (b, (a, tt))
+  ordered rel.Eq t u a b = (a, (b, tt))
+  ordered rel.Ne t u a b = (a, (b, tt))
+
+  there_good : (x : ℕ) (st : State) → Well st → (o : Option Ty) → type_at x st.types ≡ o → Goes Good (there o)
+  there_good x st k (Some t) e = record { is = entry_at (λ (p : ℕ × Ty). Good p.1) st.types x t k.types e }
+  there_good x st k None e = record { is = tt }
+
+  mutual
+    unfolding operand
+
+    pub operand_kept : (e : core.Expr) (st : State) → Well st → Goes WellTyped (operand site e st)
+    operand_kept (core.Int n) st k = type_kept None (operation.Literal n) [] st k tt
+    operand_kept (core.Bool b) st k = type_kept None (operation.Truth b) [] st k tt
+    operand_kept (core.Var x) st k = then_answers (there (type_at x st.types)) _ (there_good x st k (type_at x st.types) refl) (λ t g. record { is = (k, g) })
+    operand_kept (core.Neg e) st k =
+        then_answers (operand site e st) _ (operand_kept e st k) (λ r h. type_kept None operation.Sub (ty.Int zero_form ∷ r.0 ∷ []) r.1 h.0 ((zero_is_form, tt), (h.1, tt)))
+    operand_kept (core.Chain first rest) st k =
+        then_answers (operand site first st) _ (operand_kept first st k) (λ r h. chained_kept rest r.0 r.1 h.0 h.1)
+    operand_kept (core.Compare r left right) st k =
+        then_answers (operand site left st) _ (operand_kept left st k)
+        (λ p h. then_answers (operand site right p.1) _ (operand_kept right p.1 h.0)
+        (λ q g. type_kept None (operation.Compare (comparison_of r)) (in_order r p.0 q.0) q.1 g.0 (ordered r p.0 q.0 h.1 g.1)))
+    operand_kept (core.Index array index at) st k =
+        then_answers (operand site array st) _ (operand_kept array st k)
+        (λ p h. then_answers (operand site index p.1) _ (operand_kept index p.1 h.0)
+        (λ q g. type_kept (Some at) operation.Load (p.0 ∷ q.0 ∷ []) q.1 g.0 (h.1, (g.1, tt))))
+    operand_kept (core.Len array) st k =
+        then_answers (operand site array st) _ (operand_kept array st k) (λ r h. type_kept None operation.Length (r.0 ∷ []) r.1 h.0 (h.1, tt))
+    operand_kept (core.Call fun args at) st k =
+        then_answers (operands site args [] st) _ (operands_kept args [] st k tt) (λ r h. type_kept (Some at) (operation.Call fun) r.0 r.1 h.0 h.1)
+    operand_kept (core.Make number args at) st k =
+        then_answers (operands site args [] st) _ (operands_kept args [] st k tt) (λ r h. type_kept (Some at) (operation.Tuple number) r.0 r.1 h.0 h.1)
+    operand_kept (core.New element len fill at) st k =
+        then_answers (operand site len st) _ (operand_kept len st k)
+        (λ p h. then_answers (operand site fill p.1) _ (operand_kept fill p.1 h.0)
+        (λ q g. type_kept (Some at) (operation.New element) (p.0 ∷ q.0 ∷ []) q.1 g.0 (h.1, (g.1, tt))))
+
+    operands_kept : (es : core.Exprs) (types : List Ty) (st : State) → Well st → AllByRecursion Good types → Goes AllWellTyped (operands site es types st)
+    operands_kept core.NoExpr types st k all = record { is = (k, all) }
+    operands_kept (core.AnExpr e es) types st k all =
+        then_answers (operand site e st) _ (operand_kept e st k) (λ r h. operands_kept es (types ++ r.0 ∷ []) r.1 h.0 (all_push Good types r.0 all h.1))
+
+    chained_kept : (links : core.Links) (t : Ty) (st : State) → Well st → Good t → Goes WellTyped (chained site links t st)
+    chained_kept core.NoLink t st k good = record { is = (k, good) }
+    chained_kept (core.ALink o e at others) t st k good =
+        then_answers (operand site e st) _ (operand_kept e st k)
+        (λ r h. then_answers (type_by site (demands_at o at) (operation_of o) (t ∷ r.0 ∷ []) r.1) _
+        (type_kept (demands_at o at) (operation_of o) (t ∷ r.0 ∷ []) r.1 h.0 (good, (h.1, tt)))
+        (λ s g. chained_kept others s.0 s.1 g.0 g.1))
+
+  -- ---- tests
+
+  pub record WellSides (sides : Sides) : Type 0 where
+    pub on_true : AreSound sides.on_true
+    pub on_false : AreSound sides.on_false
+    pub after : Well sides.after
+
+  branched_kept : (op : Operation) (types : List Ty) (st : State) → Well st → AllByRecursion Good types → Goes WellSides (branched site op types st)
+  unfolding branched
+  branched_kept op types st k good =
+      then_answers (state_by site None op types st) _ (state_kept None op types st k good)
+      (λ more h. then_answers (by_rule (filled (all_assuming (side true op types) more.ctx))) _
+      (by_rule_goes (filled (all_assuming (side true op types) more.ctx)) (filled_goes (all_assuming (side true op types) more.ctx)
+      (assumed_stand (side true op types) more.ctx (side_good (setting_of site) are true op types good) h.rows)))
+      (λ one a. then_answers (by_rule (filled (all_assuming (side false op types) more.ctx))) _
+      (by_rule_goes (filled (all_assuming (side false op types) more.ctx)) (filled_goes (all_assuming (side false op types) more.ctx)
+      (assumed_stand (side false op types) more.ctx (side_good (setting_of site) are false op types good) h.rows)))
+      (λ two b. record { is = record { on_true = a.sound; on_false = b.sound; after = h } })))
+
+  truth_kept : (e : core.Expr) (st : State) → Well st → Goes WellSides (truth_leaf site e st)
+  unfolding truth_leaf
+  truth_kept e st k = then_answers (operand site e st) _ (operand_kept e st k) (λ r h. branched_kept (operation.BranchTruth true) (r.0 ∷ []) r.1 h.0 (h.1, tt))
+
+  leaf_kept : (e : core.Expr) (st : State) → Well st → Goes WellSides (leaf site e st)
+  unfolding leaf
+  leaf_kept (core.Compare r left right) st k =
+      then_answers (operand site left st) _ (operand_kept left st k)
+      (λ p h. then_answers (operand site right p.1) _ (operand_kept right p.1 h.0)
+      (λ q g. branched_kept (operation.Branch (comparison_of r)) (in_order r p.0 q.0) q.1 g.0 (ordered r p.0 q.0 h.1 g.1)))
+  leaf_kept e st k = truth_kept e st k
+
+  pub side_kept : (rows : List Linear) (st : State) → AreSound rows → Well st → Well (on_side rows st)
+  side_kept rows st sound k = record { rows = sound; types = k.types; rise = k.rise; few = k.few }
+
+  pub noted_kept : (rows : List Linear) (st : State) → Well st → Well (noting_state rows st)
+  unfolding noting_state
+  noted_kept rows st k = record { rows = k.rows; types = k.types; rise = k.rise; few = k.few }
+
+  mutual
+    unfolding tested
+
+    pub tested_kept : (test : core.Test) (st : State) → Well st → Goes WellSides (tested site test st)
+    tested_kept (core.Leaf e) st k = leaf_kept e st k
+    tested_kept (core.All parts) st k =
+        let begin : Sides = record { on_true = st.ctx.rows; on_false = st.ctx.rows; after = st } in
+        then_answers (all_true site parts begin) _ (all_true_kept parts begin (record { on_true = k.rows; on_false = k.rows; after = k }))
+        (λ last h. record { is = record { on_true = h.on_true; on_false = k.rows; after = noted_kept st.ctx.rows last.after h.after } })
+    tested_kept (core.Any parts) st k =
+        let begin : Sides = record { on_true = st.ctx.rows; on_false = st.ctx.rows; after = st } in
+        then_answers (all_false site parts begin) _ (all_false_kept parts begin (record { on_true = k.rows; on_false = k.rows; after = k }))
+        (λ last h. record { is = record { on_true = k.rows; on_false = h.on_false; after = noted_kept st.ctx.rows last.after h.after } })
+    tested_kept (core.Not part) st k =
+        then_answers (tested site part st) _ (tested_kept part st k) (λ sides h. record { is = record { on_true = h.on_false; on_false = h.on_true; after = h.after } })
+
+    all_true_kept : (parts : core.Tests) (sides : Sides) → WellSides sides → Goes WellSides (all_true site parts sides)
+    all_true_kept core.NoTest sides k = record { is = k }
+    all_true_kept (core.ATest part others) sides k =
+        then_answers (tested site part (on_side sides.on_true sides.after)) _ (tested_kept part (on_side sides.on_true sides.after) (side_kept sides.on_true sides.after k.on_true k.after))
+        (λ more h. all_true_kept others more h)
+
+    all_false_kept : (parts : core.Tests) (sides : Sides) → WellSides sides → Goes WellSides (all_false site parts sides)
+    all_false_kept core.NoTest sides k = record { is = k }
+    all_false_kept (core.ATest part others) sides k =
+        then_answers (tested site part (on_side sides.on_false sides.after)) _ (tested_kept part (on_side sides.on_false sides.after) (side_kept sides.on_false sides.after k.on_false k.after))
+        (λ more h. all_false_kept others more h)

@@ -1,0 +1,2 @@
+//! Typed code meets the rules over places.
+#![tactic(auto)]
