@@ -53,6 +53,8 @@ pub mod IfMeets
 pub mod IfParts
 pub mod IfWhole
 pub mod BodiesTyped
+pub mod FunctionsCarried
+pub mod ProgramsTyped
 pub mod GroundsFound
 pub mod StartsFound
 pub mod SimpleTyped
