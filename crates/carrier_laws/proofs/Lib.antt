@@ -55,6 +55,7 @@ pub mod IfWhole
 pub mod BodiesTyped
 pub mod FunctionsCarried
 pub mod ProgramsTyped
+pub mod WholeTyped
 pub mod GroundsFound
 pub mod StartsFound
 pub mod SimpleTyped

@@ -62,9 +62,9 @@ module _ (program : core.Program) where
 
   -- ---- as many lists as functions
 
-  record AsMany (made after : Functions) (count : ℕ) : Type 0 where
-    states : length after.states ≡ length made.states + count
-    edges : length after.edges ≡ length made.edges + count
+  pub record AsMany (made after : Functions) (count : ℕ) : Type 0 where
+    pub states : length after.states ≡ length made.states + count
+    pub edges : length after.edges ≡ length made.edges + count
 
   pub carried_long : (proofs : Proofs) (P : LowFun → Columns → Type 0) (fs : List core.Fun) (sigs : List Signature) (columns : List Columns) (made : Functions) → AllZip P (functions_of program fs sigs) columns
       → AsMany made (functions proofs fs columns made) (length (functions_of program fs sigs))
