@@ -1,6 +1,10 @@
-//! What carrying types gives is typed.
+//! Why what carrying types gives is typed.
 //!
-//! Laws and no code: where all goals of a core are proved, the code over places that it is lowered to, with the states of labels and the proofs
-//! that carrying takes from the notes of elaboration, meets the rules of typed code. The crate stands on `type_carrier` for what is carried, and on
-//! `three_address` for the rules.
+//! Laws and no code: the code over places that a core is lowered to, with the states of labels and the proofs that carrying takes from the notes
+//! of elaboration, meets the rules of typed code, statement by statement and block by block. The crate stands on `type_carrier` for what is
+//! carried, and on `three_address` for the rules. That each function as a whole does is not proved yet.
 #![tactic(auto)]
+
+mod laws;
+
+pub use crate::laws::carried_headers_are_typed;
