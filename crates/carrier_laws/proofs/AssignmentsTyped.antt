@@ -1,7 +1,6 @@
 -- Assignments and calls as statements are typed: a value comes to a variable, or to a temporary that nothing reads.
-use Rattle.std.proofs.Common.{◌≡◌, ◌≢◌, ◌∙◌, ℕ, zero, suc, ◌+◌, ◌<◌, ◌≤◌, ◌==◌, cond, Bool, true, false, List, [], ◌∷◌, length, slice_get, Option, Some, None, Result, Ok, Err, refl, sym, ap, subst, arith, ◌⊎◌, inl, inr}
+use Rattle.std.proofs.Common.{◌≡◌, ◌∙◌, ℕ, suc, ◌+◌, ◌<◌, ◌==◌, cond, Bool, true, false, List, [], length, Option, Some, None, Ok, Err, refl, sym, ap, subst, arith}
 use Rattle.std.proofs.lemmas.Bool.Decides.{Decides-eqb}
-use Rattle.state_types.specs.Answers.{◌>>=◌}
 use Rattle.state_types.specs.PlaceTypes.{type_at, with_type}
 use Rattle.state_types.specs.Types.{same_kind}
 use Rattle.state_types.specs.declared.state.StateType.{StateType}
@@ -12,17 +11,16 @@ use Rattle.three_address.specs.declared.instruction.LowInstr.{LowInstr}
 use Rattle.lowering.specs.Frames.{temporary}
 use Rattle.lowering.specs.ValueCode.{value_code}
 use Rattle.xan_lin.specs.declared.term.LimitKind.TheVariants as limit
-use Rattle.xan_seq.proofs.NumberTests.{equal, unequal}
+use Rattle.xan_seq.proofs.NumberTests.{equal}
 use Rattle.xan_seq.proofs.RisingKeys.{value-with}
 use Rattle.xanadu_tree.specs.Plain as core
 use Rattle.typed_core.specs.Limits.{within, Misfit, Walk as Limited}
 use Rattle.typed_core.specs.Operands.{operand}
-use Rattle.typed_core.specs.States.{Site, State, like, given}
+use Rattle.typed_core.specs.States.{State, like, given}
 use Rattle.typed_core.specs.Statements.{assigned, done}
 use Rattle.type_carrier.specs.CarriedValues.{Carried, value}
 use Rattle.carrier_laws.proofs.ChainsTyped.{CodeAt}
-use Rattle.carrier_laws.proofs.ValuesPlaced.{Now, Temporaries, Came}
-use Rattle.carrier_laws.proofs.OperandsRun.{Walk, IsWalk, Ahead, Here, Runs, Valued, Within}
+use Rattle.carrier_laws.proofs.OperandsRun.{Walk, Ahead, Here, Runs, Valued}
 use Rattle.carrier_laws.proofs.OperandsTyped.{Keeps, ValueTyped}
 
 -- the code has run, and elaboration stands behind it; no temporary waits

@@ -1,13 +1,11 @@
 -- All statements and blocks are typed.
-use Rattle.std.proofs.Common.{◌≡◌, ◌∙◌, ℕ, zero, suc, ◌+◌, Bool as Truth, true, false, List, [], ◌∷◌, ◌++◌, length, Option, Some, None, Result, Ok, Err, refl, sym, ap, subst, arith, append_assoc, append-nil}
+use Rattle.std.proofs.Common.{◌≡◌, ◌∙◌, ℕ, ◌+◌, Bool as Truth, true, false, List, [], ◌++◌, length, Ok, refl, sym, ap, subst, arith, append_assoc, append-nil}
 use Rattle.state_types.specs.declared.state.StateType.{StateType}
 use Rattle.state_types.proofs.Thens.{then_ok, ok_same}
-use Rattle.three_address.specs.declared.instruction.LowInstr.{LowInstr}
 use Rattle.lowering.specs.Frames.{Frame, tuple_number}
-use Rattle.lowering.specs.StatementCode.{statement_code, statement_labels, statement_size, block_code, block_labels, block_size}
+use Rattle.lowering.specs.StatementCode.{statement_code, statement_labels, statement_size, block_code, block_labels}
 use Rattle.lowering.proofs.CodeSizes.{statement_long}
-use Rattle.xanadu_tree.specs.BodyRules.{Point, completes, completes_all, MayFollow, IsStatement, AreStatements}
-use Rattle.xanadu_tree.specs.declared.stmt.Clause.{Clause}
+use Rattle.xanadu_tree.specs.BodyRules.{Point, completes, completes_all, MayFollow, AreStatements}
 use Rattle.xanadu_tree.specs.declared.types.Kind.TheVariants as kind
 use Rattle.xanadu_tree.specs.KindRules.{Setting, HasKind}
 use Rattle.xanadu_tree.specs.Plain as core
@@ -25,7 +23,6 @@ use Rattle.carrier_laws.proofs.OperandsRun.{Walk, IsWalk, Here, no_code}
 use Rattle.carrier_laws.proofs.BlocksAsked.{StatementTyped, BlockTyped}
 use Rattle.carrier_laws.proofs.FragmentsJoined.{typed_on}
 use Rattle.carrier_laws.proofs.FragmentsTyped.{sources_of, HasLabels, Coming, AllAhead, Begins, Typed}
-use Rattle.carrier_laws.proofs.LabelsTaken.{Left, TakesAll}
 use Rattle.carrier_laws.proofs.LoopsTyped.{while_typed}
 use Rattle.carrier_laws.proofs.PlacesKept.{Grounds, Place, statement_place}
 use Rattle.carrier_laws.proofs.StatementsTaken.{statement_taken, block_taken}

@@ -1,16 +1,14 @@
 -- What is typed as one fragment, from where a function begins, is a typed function.
-use Rattle.std.proofs.Common.{◌≡◌, ◌≢◌, ◌∙◌, ℕ, zero, suc, ◌+◌, ◌<◌, ◌≤◌, ◌⊎◌, inl, inr, Bool as Truth, true, false, List, [], ◌∷◌, ◌++◌, length, slice_get, Option, Some, None, refl, sym, ap, subst, arith}
+use Rattle.std.proofs.Common.{◌≡◌, ◌∙◌, ℕ, zero, suc, ◌<◌, ◌≤◌, ◌⊎◌, inl, inr, Bool as Truth, true, false, List, [], ◌∷◌, ◌++◌, length, slice_get, Option, Some, None, refl, sym, ap, subst, arith}
 use Rattle.std.specs.Prelude.{◌-◌, ℤ, pos, negsuc, nat_lt, if◌then◌else◌}
-use Rattle.std.specs.List.{AllZip, Contains}
+use Rattle.std.specs.List.{Contains}
 use Rattle.std.proofs.lemmas.Option.{same_Some}
 use Rattle.operation_rules.specs.Rules.{Setting}
 use Rattle.operation_rules.specs.declared.operation.Operation.{Operation}
 use Rattle.operation_rules.specs.declared.operation.Operation.TheVariants as operation
-use Rattle.state_types.specs.declared.closed.Packed.{Packed}
-use Rattle.state_types.specs.declared.closed.Signature.{Signature}
 use Rattle.state_types.specs.declared.state.StateType.{StateType}
 use Rattle.three_address.specs.Instructions.{Instruction, of_type, of_comparison, of_truth, operation_of, with_places, with_operation, instruction_of}
-use Rattle.three_address.specs.Typing.{Allows, Leads, IsLabel, Stops, StandsAgain, GoesOn as GoesOnward}
+use Rattle.three_address.specs.Typing.{Allows, Leads, Stops, StandsAgain}
 use Rattle.three_address.specs.declared.function.LowFun.{LowFun}
 use Rattle.three_address.specs.declared.instruction.LowInstr.{LowInstr}
 use Rattle.three_address.specs.declared.instruction.Op22.{Op22}
@@ -18,7 +16,7 @@ use Rattle.three_address.specs.declared.instruction.Op22.TheVariants as op
 use Rattle.three_address.specs.declared.typed.Edge.{Edge}
 use Rattle.xan_seq.proofs.NumberTests.{Order, Lt, Gt, Eq, order}
 use Rattle.xanadu_tree.specs.KindRules.{IsAmong}
-use Rattle.lowering.specs.CodeBlocks.{Spaced, stops, EndsBefore, InBlocks}
+use Rattle.lowering.specs.CodeBlocks.{stops, InBlocks}
 use Rattle.carrier_laws.proofs.ChainsTyped.{Body, Chain, Done, Next, placed}
 
 -- ---- one list for each

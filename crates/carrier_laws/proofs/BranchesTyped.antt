@@ -1,5 +1,5 @@
 -- A conditional branch behind its operands: to the label with the rows of its true side, and on with those of its false side.
-use Rattle.std.proofs.Common.{◌≡◌, ◌∙◌, ℕ, zero, suc, ◌+◌, ◌<◌, ◌≤◌, Bool as Truth, true, false, List, [], ◌∷◌, ◌++◌, length, map, slice_get, Option, Some, None, Result, Ok, Err, refl, sym, ap, subst, arith, append_assoc}
+use Rattle.std.proofs.Common.{◌≡◌, ◌∙◌, ℕ, suc, ◌+◌, ◌<◌, ◌≤◌, Bool as Truth, true, false, List, [], ◌∷◌, ◌++◌, length, map, slice_get, Option, Some, Ok, refl, sym, ap, subst, arith}
 use Rattle.std.specs.Prelude.{option_to_list}
 use Rattle.std.specs.List.{All, AllZip, AllByRecursion, Contains}
 use Rattle.std.proofs.lemmas.List.{length-append}
@@ -12,7 +12,7 @@ use Rattle.operation_rules.specs.declared.operation.Operation.{Operation}
 use Rattle.state_types.specs.PlaceTypes.{type_at}
 use Rattle.state_types.specs.declared.state.StateType.{StateType}
 use Rattle.state_types.specs.declared.types.Ty.{Ty}
-use Rattle.three_address.specs.Flow.{ways, ways_of, ways_from, label_at, target_of, reads_at, writes_at}
+use Rattle.three_address.specs.Flow.{ways, ways_of, ways_from, label_at, target_of}
 use Rattle.three_address.specs.Instructions.{Instruction, instruction_of}
 use Rattle.three_address.specs.Liveness.{Live, Read, Kept}
 use Rattle.three_address.specs.Typing.{Allows, GoesTo, Leads, Parts, ruled_in, state_of}
@@ -21,17 +21,17 @@ use Rattle.three_address.specs.declared.typed.Edge.{Edge}
 use Rattle.lowering.specs.Lowered.{number_of}
 use Rattle.typed_core.specs.Constructs.{setting_of}
 use Rattle.typed_core.specs.Growth.{Continues}
-use Rattle.typed_core.specs.States.{Site, State}
+use Rattle.typed_core.specs.States.{State}
 use Rattle.typed_core.specs.Tests.{on_side}
 use Rattle.typed_core.proofs.NamedStates.{all_assumed_vars}
 use Rattle.type_carrier.specs.CarriedValues.{Carried, plainly}
 use Rattle.type_carrier.specs.ProvedRows.{plain}
-use Rattle.carrier_laws.proofs.ChainsTyped.{Body, Chain, Done, Next, CodeAt, Stands, placed, found, reads_are, writes_are}
+use Rattle.carrier_laws.proofs.ChainsTyped.{Done, Next, CodeAt, Stands, placed, found, reads_are, writes_are}
 use Rattle.carrier_laws.proofs.DemandsProved.{seam}
 use Rattle.carrier_laws.proofs.GivenFollowed.{given_follow}
-use Rattle.carrier_laws.proofs.OperandsRun.{Walk, IsWalk, Here, Runs, Waits, Within, runs_on}
+use Rattle.carrier_laws.proofs.OperandsRun.{Walk, IsWalk, Here, Runs, Waits, runs_on}
 use Rattle.carrier_laws.proofs.OperationsTyped.{ruled_is}
-use Rattle.carrier_laws.proofs.ValuesPlaced.{Now, Where, read_all}
+use Rattle.carrier_laws.proofs.ValuesPlaced.{Where, read_all}
 use Rattle.carrier_laws.proofs.FragmentsTyped.{HasLabels, LabelAt}
 use Rattle.carrier_laws.proofs.LabelsMet.{Formed, plain_jump}
 use Rattle.carrier_laws.proofs.PlainWays.{Stays}

@@ -1,11 +1,11 @@
 -- Instructions one after the other, each of which its rule allows in the state type that the one before it leaves; and where they stand in a
 -- function.
-use Rattle.std.proofs.Common.{◌≡◌, ◌∙◌, ℕ, zero, suc, ◌+◌, ◌<◌, List, [], ◌∷◌, ◌++◌, length, slice_get, Option, Some, None, refl, sym, ap, subst, arith}
-use Rattle.std.specs.List.{All, Contains}
+use Rattle.std.proofs.Common.{◌≡◌, ◌∙◌, ℕ, zero, suc, ◌+◌, ◌<◌, List, [], ◌∷◌, ◌++◌, length, slice_get, Some, refl, ap, subst, arith}
+use Rattle.std.specs.List.{All}
 use Rattle.lowering.specs.Lowered.{leads, renumbered}
 use Rattle.operation_rules.specs.Rules.{Setting}
 use Rattle.state_types.specs.declared.state.StateType.{StateType}
-use Rattle.three_address.specs.Flow.{reads_at, writes_at, ways_from, reads_of, writes_of, with_instruction, instruction_at}
+use Rattle.three_address.specs.Flow.{reads_at, writes_at, reads_of, writes_of, with_instruction, instruction_at}
 use Rattle.three_address.specs.Instructions.{Instruction, instruction_of}
 use Rattle.three_address.specs.Typing.{Allows}
 use Rattle.three_address.specs.declared.function.LowFun.{LowFun}

@@ -1,45 +1,35 @@
 -- A construct behind its operands, one or two or more, is typed.
-use Rattle.std.proofs.Common.{◌≡◌, ◌≢◌, ◌∙◌, ℕ, zero, suc, ◌+◌, ◌<◌, ◌≤◌, List, [], ◌∷◌, ◌++◌, length, slice_get, Option, Some, None, Result, Ok, Err, refl, sym, ap, subst, arith, append_assoc, append-nil, inl, inr}
+use Rattle.std.proofs.Common.{◌≡◌, ◌∙◌, ℕ, List, [], ◌∷◌, ◌++◌, length, slice_get, Option, Some, None, Ok, refl, sym, ap, subst, arith}
 use Rattle.std.proofs.lemmas.List.{length-append}
-use Rattle.std.specs.List.{All, AllZip}
-use Rattle.index_sorts.specs.Context.{IndexContext}
-use Rattle.xan_lin.specs.Subst.{zero_form}
+use Rattle.std.specs.List.{AllZip}
 use Rattle.operation_rules.specs.Applied.{named}
 use Rattle.operation_rules.specs.Rules.{Setting, rule}
 use Rattle.operation_rules.specs.declared.operation.Operation.{Operation}
-use Rattle.operation_rules.specs.declared.operation.Operation.TheVariants as operation
-use Rattle.state_types.specs.Answers.{◌>>=◌}
-use Rattle.state_types.specs.PlaceTypes.{type_at}
 use Rattle.state_types.specs.declared.state.StateType.{StateType}
 use Rattle.state_types.specs.declared.types.Ty.{Ty}
-use Rattle.state_types.specs.declared.types.Ty.TheVariants as ty
-use Rattle.state_types.proofs.Thens.{then_ok, ok_same}
-use Rattle.three_address.specs.Instructions.{Instruction, instruction_of}
 use Rattle.three_address.specs.declared.instruction.LowInstr.{LowInstr}
-use Rattle.lowering.specs.Frames.{temporary, operand_place}
-use Rattle.lowering.specs.OneInstruction.{literal, truth, unary, binary, called, tuple_made, array_made, compared}
-use Rattle.lowering.specs.ValueCode.{value_code, operand_at, operands_code, operand_places}
+use Rattle.lowering.specs.Frames.{operand_place}
+use Rattle.lowering.specs.ValueCode.{operand_at}
 use Rattle.xanadu_tree.specs.Plain as core
 use Rattle.typed_core.specs.Constructs.{setting_of, type_by}
-use Rattle.typed_core.specs.Growth.{Continues, Later}
-use Rattle.typed_core.specs.Operands.{operand, operands}
+use Rattle.typed_core.specs.Growth.{Later}
+use Rattle.typed_core.specs.Operands.{operand}
 use Rattle.typed_core.specs.Places.{behind}
-use Rattle.typed_core.specs.States.{Site, State}
-use Rattle.typed_core.specs.declared.note.Note.{Note}
+use Rattle.typed_core.specs.States.{State}
 use Rattle.typed_core.proofs.Continued.{no_more, more_again}
 use Rattle.typed_core.proofs.GrownContexts.{Onward, type_by_goes}
-use Rattle.typed_core.proofs.GrownOperands.{Along, operand_goes, operands_go}
+use Rattle.typed_core.proofs.GrownOperands.{operand_goes}
 use Rattle.type_carrier.specs.CarriedValues.{Carried, plainly, demanded, value, operand_carried}
 use Rattle.type_carrier.specs.CarriedValues as carried
-use Rattle.carrier_laws.proofs.ChainsTyped.{CodeAt, code_left, code_right, placed}
+use Rattle.carrier_laws.proofs.ChainsTyped.{CodeAt, code_left, code_right}
 use Rattle.carrier_laws.proofs.DemandsProved.{seam}
 use Rattle.carrier_laws.proofs.InstructionsStand.{IsInstr}
 use Rattle.carrier_laws.proofs.OperationFacts.{Quiet}
 use Rattle.carrier_laws.proofs.OperationsTyped.{Follows, promised}
-use Rattle.carrier_laws.proofs.ValuesPlaced.{Now, Temporaries, Where, GoesNext, Operates, first_given}
-use Rattle.carrier_laws.proofs.OperandsRun.{Walk, IsWalk, Ahead, Here, Runs, no_code, runs_on, Waits, Valued, waits_more}
+use Rattle.carrier_laws.proofs.ValuesPlaced.{Where, Operates, first_given}
+use Rattle.carrier_laws.proofs.OperandsRun.{Walk, IsWalk, Ahead, Here, no_code, runs_on, Waits, Valued, waits_more}
 use Rattle.carrier_laws.proofs.OperationsRun.{quietly, by_note}
-use Rattle.carrier_laws.proofs.OperandsTyped.{Keeps, ValueTyped, OperandTyped, OperandWaits, as_operand}
+use Rattle.carrier_laws.proofs.OperandsTyped.{Keeps, OperandTyped}
 
 -- ---- what is ahead later is ahead before
 

@@ -1,12 +1,9 @@
 -- Values that are listed for variables in turn, from a first one on: what stands for a variable.
-use Rattle.std.proofs.Common.{◌≡◌, ◌≢◌, ◌∙◌, ℕ, zero, suc, ◌+◌, ◌<◌, ◌≤◌, ◌==◌, nat_lt, cond, List, [], ◌∷◌, ◌++◌, length, slice_get, Bool as Truth, true, false, ◌⊎◌, inl, inr, Option, Some, None, refl, sym, ap, ap₂, subst, arith}
-use Rattle.std.specs.Prelude.{nat_le, ◌&&◌}
-use Rattle.std.specs.List.{All}
+use Rattle.std.proofs.Common.{◌≡◌, ◌≢◌, ◌∙◌, ℕ, zero, suc, ◌+◌, ◌<◌, ◌≤◌, ◌==◌, cond, List, [], ◌∷◌, ◌++◌, length, slice_get, Bool as Truth, true, false, Option, Some, None, refl, ap, subst, arith}
+use Rattle.std.specs.Prelude.{nat_le}
 use Rattle.std.proofs.lemmas.Bool.{le-leb}
-use Rattle.std.proofs.lemmas.List.Elements.{All-nil, All-cons}
-use Rattle.xan_lin.specs.Linear.{Linear, NamesBelow, variable_form}
+use Rattle.xan_lin.specs.Linear.{Linear, variable_form}
 use Rattle.xan_lin.specs.Subst.{VariablesRise, listed, listed_or_own, replacement, zero_form}
-use Rattle.xan_lin.specs.declared.term.Term.{Term}
 use Rattle.xan_lin.proofs.Booleans.{both_true, less, equal, unequal}
 use Rattle.typed_core.specs.Strays.{values_rise}
 

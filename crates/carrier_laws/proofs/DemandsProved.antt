@@ -1,11 +1,10 @@
 -- What a construct demands is known, or proved by what stands with its instruction.
-use Rattle.std.proofs.Common.{◌≡◌, ◌∙◌, ℕ, zero, suc, ◌+◌, List, [], ◌∷◌, ◌++◌, length, slice_get, Bool as Truth, true, false, Option, Some, None, refl, sym, ap, subst, append_assoc, append-nil}
-use Rattle.std.specs.List.{AllZip}
+use Rattle.std.proofs.Common.{◌≡◌, ◌∙◌, ℕ, zero, suc, List, [], ◌∷◌, ◌++◌, length, slice_get, Bool as Truth, true, false, Option, Some, None, refl, sym, ap, subst, append_assoc, append-nil}
 use Rattle.index_sorts.specs.Context.{IndexContext}
 use Rattle.index_sorts.specs.Known.{knows}
 use Rattle.proof_lines.specs.declared.line.Line.{Line}
 use Rattle.xan_lin.specs.Linear.{Linear}
-use Rattle.three_address.specs.Demands.{Demand, demands_of, Proves, AreProved, AllProved, IsKnown, HasLines}
+use Rattle.three_address.specs.Demands.{demands_of, AreProved, AllProved, IsKnown, HasLines}
 use Rattle.three_address.specs.declared.typed.ProvedRow.{ProvedRow}
 use Rattle.typed_core.specs.Growth.{Continues}
 use Rattle.typed_core.specs.Proving.{ProveGoal, ProveAll}

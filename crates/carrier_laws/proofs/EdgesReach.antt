@@ -1,42 +1,30 @@
 -- A way that elaboration made into a join is one that typing over places allows: what the label demands is known there, or proved by the lines
 -- that stand with the jump.
-use Rattle.std.proofs.Common.{◌≡◌, ◌∙◌, ℕ, zero, suc, ◌+◌, ◌<◌, ◌≤◌, nat_lt, cond, List, [], ◌∷◌, ◌++◌, map, length, slice_get, get_or, Bool as Truth, true, false, ◌⊎◌, inl, inr, Option, Some, None, Result, Ok, Err, refl, sym, ap, ap₂, subst, arith, append_assoc, append-nil, length-append}
-use Rattle.std.specs.Prelude.{◌==◌, ◌&&◌, not}
-use Rattle.std.specs.List.{All, AllZip, AllByRecursion, Contains}
+use Rattle.std.proofs.Common.{◌≡◌, ◌∙◌, ℕ, ◌+◌, ◌<◌, ◌≤◌, cond, List, [], ◌∷◌, ◌++◌, length, true, ◌⊎◌, inl, inr, Option, Some, None, Ok, Err, refl, sym, ap, subst, arith, append_assoc, append-nil}
+use Rattle.std.specs.List.{All, AllByRecursion}
 use Rattle.std.proofs.lemmas.List.Elements.{All-nil, All-cons, All-head, All-tail}
 use Rattle.index_sorts.specs.Context.{IndexContext}
-use Rattle.index_sorts.specs.Known.{IsKnown, knows}
-use Rattle.index_sorts.proofs.KnownRows.{Decides-knows}
-use Rattle.xan_lin.specs.Linear.{Linear, IsForm, NamesBelow, variable_form}
-use Rattle.xan_lin.specs.Same.{same_form}
+use Rattle.xan_lin.specs.Linear.{Linear, IsForm, NamesBelow}
 use Rattle.xan_lin.specs.Subst.{replacement, subst_of}
 use Rattle.xan_lin.specs.declared.term.Term.{Term}
-use Rattle.xan_lin.specs.declared.term.TooLarge.{TooLarge}
-use Rattle.xan_lin.proofs.Booleans.{both, both_true}
 use Rattle.xan_lin.proofs.EqualForms.{Decides-same_form}
-use Rattle.xan_seq.specs.Rising.{KeysRise}
 use Rattle.state_types.specs.Answers.{Check, ◌>>=◌, within_bounds}
 use Rattle.state_types.specs.Matching.{pair_of, pair_found, pair_at, both_differences, differences, index_rows, own_rows}
 use Rattle.state_types.specs.PlaceTypes.{type_at}
-use Rattle.state_types.specs.Types.{index_of, same_kind, TypeBelow}
+use Rattle.state_types.specs.Types.{index_of, same_kind}
 use Rattle.state_types.specs.declared.error.StateError.TheVariants.{Kind}
 use Rattle.state_types.specs.declared.state.StateType.{StateType}
 use Rattle.state_types.proofs.MatchPairs.{paired}
 use Rattle.state_types.specs.declared.types.Ty.{Ty}
 use Rattle.state_types.specs.declared.types.Ty.TheVariants as ty
 use Rattle.three_address.specs.Demands.{Demand, demands_of, place_demands, places_demands, label_demands, AreProved, AllProved}
-use Rattle.three_address.specs.Typing.{Reaches}
-use Rattle.three_address.specs.declared.typed.Edge.{Edge}
 use Rattle.three_address.specs.declared.typed.ProvedRow.{ProvedRow}
-use Rattle.typed_core.specs.Joins.{with_index}
-use Rattle.typed_core.specs.Strays.{values_rise}
 use Rattle.xanadu_tree.specs.declared.types.CoreTy.{CoreTy}
 use Rattle.type_carrier.specs.ProvedRows.{Proofs, Way, way, rows_among, row_among}
-use Rattle.type_carrier.specs.Ways.{present_at, first_own, rows_or_none, place_rows, places_by, row_by, rows_by, all_by, rising_edge, way_edge}
-use Rattle.carrier_laws.proofs.FormsKept.{StandsAlike, subst_alike, StaysItself, subst_kept, subst_alone}
-use Rattle.carrier_laws.proofs.CountedValues.{Counted, counted_rise, counted_test, not_listed, IsListedAt, is_listed, listed_front, listed_stands, own_stands}
-use Rattle.carrier_laws.proofs.MatchedRows.{RowMet, TypeMet}
-use Rattle.carrier_laws.proofs.WayRows.{Among, AreAsked, Sought, rows_proved, row_proved, proved_on}
+use Rattle.type_carrier.specs.Ways.{present_at, place_rows, places_by, row_by, rows_by, all_by}
+use Rattle.carrier_laws.proofs.FormsKept.{StandsAlike, subst_alike, StaysItself, subst_kept}
+use Rattle.carrier_laws.proofs.CountedValues.{Counted, not_listed, is_listed, listed_front, listed_stands, own_stands}
+use Rattle.carrier_laws.proofs.WayRows.{AreAsked, Sought, rows_proved, row_proved, proved_on}
 
 -- the index of a type is a form
 abbrev pub IsTypeForm : Ty → Type 0

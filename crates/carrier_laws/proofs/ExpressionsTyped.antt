@@ -1,41 +1,35 @@
 -- The code of expressions is typed.
-use Rattle.std.proofs.Common.{◌≡◌, ◌≢◌, ◌∙◌, ℕ, zero, suc, ◌+◌, ◌<◌, ◌≤◌, List, [], ◌∷◌, ◌++◌, length, slice_get, Option, Some, None, Result, Ok, Err, refl, sym, ap, subst, arith, append_assoc, append-nil}
-use Rattle.std.specs.Prelude.{pos}
-use Rattle.std.specs.List.{AllZip}
-use Rattle.xan_lin.specs.Subst.{zero_form}
+use Rattle.std.proofs.Common.{◌≡◌, ◌∙◌, ℕ, List, [], ◌∷◌, ◌++◌, length, Option, Some, None, Ok, refl, sym, ap, subst, append_assoc}
 use Rattle.operation_rules.specs.Applied.{named}
-use Rattle.operation_rules.specs.Rules.{Setting, rule}
-use Rattle.operation_rules.specs.declared.operation.Operation.{Operation}
+use Rattle.operation_rules.specs.Rules.{Setting}
 use Rattle.operation_rules.specs.declared.operation.Operation.TheVariants as operation
-use Rattle.state_types.specs.Answers.{◌>>=◌}
 use Rattle.state_types.specs.PlaceTypes.{type_at}
 use Rattle.state_types.specs.declared.state.StateType.{StateType}
 use Rattle.state_types.specs.declared.types.Ty.{Ty}
-use Rattle.state_types.specs.declared.types.Ty.TheVariants as ty
 use Rattle.state_types.proofs.Thens.{then_ok, ok_same}
 use Rattle.three_address.specs.declared.instruction.LowInstr.{LowInstr}
 use Rattle.three_address.specs.declared.instruction.Op22.TheVariants as op
-use Rattle.lowering.specs.Frames.{temporary, operand_place}
+use Rattle.lowering.specs.Frames.{operand_place}
 use Rattle.lowering.specs.OneInstruction.{literal, truth, unary, binary, op_of, called, tuple_made, array_made, compared}
 use Rattle.lowering.specs.OneInstruction as one
 use Rattle.lowering.specs.ValueCode.{value_code, operand_at}
 use Rattle.xanadu_tree.specs.KindRules.{HasKind, HaveKinds, AreNumbers, IsSomeLink, Setting as KindSetting}
 use Rattle.xanadu_tree.specs.declared.types.Kind.TheVariants as kind
 use Rattle.xanadu_tree.specs.Plain as core
-use Rattle.typed_core.specs.Constructs.{setting_of, type_by}
+use Rattle.typed_core.specs.Constructs.{setting_of}
 use Rattle.typed_core.specs.Operands.{operand}
 use Rattle.typed_core.specs.Operators.{comparison_of, in_order}
 use Rattle.typed_core.specs.Places.{behind}
-use Rattle.typed_core.specs.States.{Site, State, there}
+use Rattle.typed_core.specs.States.{State, there}
 use Rattle.type_carrier.specs.CarriedValues.{Carried, plainly, demanded, value}
 use Rattle.type_carrier.specs.CarriedValues as carried
 use Rattle.carrier_laws.proofs.ChainsTyped.{CodeAt, code_left}
-use Rattle.carrier_laws.proofs.GivenFollowed.{moved, zero_given}
+use Rattle.carrier_laws.proofs.GivenFollowed.{moved}
 use Rattle.carrier_laws.proofs.InstructionsFound.{literal_is, truth_is, move_is, length_is, load_is, compare_is, array_is, sides_in_order}
 use Rattle.carrier_laws.proofs.OperationFacts.{literal_quiet, truth_quiet, move_quiet, compare_quiet, length_quiet, array_named}
 use Rattle.carrier_laws.proofs.ValuesPlaced.{Where, InVariable}
-use Rattle.carrier_laws.proofs.OperandsRun.{Walk, IsWalk, Ahead, Here, Waits, Valued}
-use Rattle.carrier_laws.proofs.OperandsTyped.{Keeps, ValueTyped, OperandTyped, OperandWaits, as_operand}
+use Rattle.carrier_laws.proofs.OperandsRun.{Walk, IsWalk, Ahead, Here, Valued}
+use Rattle.carrier_laws.proofs.OperandsTyped.{Keeps, ValueTyped, OperandTyped, as_operand}
 use Rattle.carrier_laws.proofs.OperandLists.{ListTyped, LinksTyped, no_operands, more_operands, call_typed, make_typed, last_link, more_links, chain_typed, neg_typed}
 use Rattle.carrier_laws.proofs.ConstructsTyped.{before_construct, nothing_waits, quiet_construct, noted_construct, quiet_follows, TwoWait, two_wait}
 

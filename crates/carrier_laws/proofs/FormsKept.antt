@@ -1,15 +1,13 @@
 -- What forms become: the same where what stands for their variables is the same, themselves where variables stay, and the form that stands for
 -- a variable alone.
-use Rattle.std.proofs.Common.{◌≡◌, ◌∙◌, ℕ, zero, suc, ◌≤◌, ℤ, pos, ◌+ℤ◌, ◌*ℤ◌, List, [], ◌∷◌, ◌++◌, length, Result, Ok, true, refl, sym, ap, ap₂, subst, arith, append-nil}
-use Rattle.std.specs.Prelude.{IsTrue}
+use Rattle.std.proofs.Common.{◌≡◌, ◌∙◌, ℕ, suc, ℤ, pos, ◌+ℤ◌, ◌*ℤ◌, List, [], ◌∷◌, ◌++◌, Ok, refl, ap, ap₂, arith, append-nil}
 use Rattle.std.specs.List.{All}
 use Rattle.std.proofs.lemmas.Int.{ints}
 use Rattle.std.proofs.lemmas.List.Elements.{All-head, All-tail}
-use Rattle.xan_lin.specs.Linear.{Linear, IsForm, all_within, is_within, are_within, variable_form, form_of, sized}
-use Rattle.xan_lin.specs.Subst.{replacement, multiple, multiples, replaced_terms, replaced_constant, subst_of}
+use Rattle.xan_lin.specs.Linear.{Linear, IsForm, all_within, is_within, variable_form, form_of, sized}
+use Rattle.xan_lin.specs.Subst.{replacement, multiples, replaced_terms, replaced_constant, subst_of}
 use Rattle.xan_lin.specs.Terms.{IsRising, plus_term, sum_terms}
 use Rattle.xan_lin.specs.declared.term.Term.{Term}
-use Rattle.xan_lin.specs.declared.term.TooLarge.{TooLarge}
 use Rattle.xan_lin.proofs.Booleans.{both_true}
 use Rattle.xan_lin.proofs.FormSizes.{sized-fits}
 use Rattle.xan_lin.proofs.TermSums.{plus-before}

@@ -1,5 +1,5 @@
 -- Fragments one behind the other.
-use Rattle.std.proofs.Common.{◌≡◌, ◌∙◌, ℕ, zero, suc, ◌+◌, Bool as Truth, true, false, List, [], ◌∷◌, ◌++◌, length, slice_get, Some, refl, sym, ap, subst, arith, append_assoc, append-nil}
+use Rattle.std.proofs.Common.{◌≡◌, ◌∙◌, ℕ, zero, suc, ◌+◌, Bool as Truth, true, false, List, [], ◌∷◌, ◌++◌, length, slice_get, Some, refl, ap, subst, arith, append_assoc}
 use Rattle.std.proofs.lemmas.List.{length-append}
 use Rattle.std.specs.List.{AllZip}
 use Rattle.state_types.specs.declared.state.StateType.{StateType}
@@ -9,7 +9,7 @@ use Rattle.typed_core.specs.States.{State}
 use Rattle.type_carrier.specs.CarriedTests.{Labelled}
 use Rattle.carrier_laws.proofs.ChainsTyped.{Body, Chain, Done, Next, chain_on}
 use Rattle.carrier_laws.proofs.OperandsRun.{Walk, Here}
-use Rattle.carrier_laws.proofs.FragmentsTyped.{Coming, LabelStands, Passes, GoesOn, Ends, Typed}
+use Rattle.carrier_laws.proofs.FragmentsTyped.{LabelStands, Passes, Ends, Typed}
 
 -- ---- lists
 

@@ -8,7 +8,6 @@ use Rattle.state_types.specs.declared.state.StateType.{StateType}
 use Rattle.three_address.specs.Flow.{label_at}
 use Rattle.three_address.specs.LiveLabels.{AreAllColumns}
 use Rattle.three_address.specs.declared.instruction.LowInstr.{LowInstr}
-use Rattle.three_address.specs.declared.typed.Edge.{Edge}
 use Rattle.typed_core.specs.Growth.{Continues}
 use Rattle.typed_core.specs.States.{State}
 use Rattle.typed_core.specs.declared.note.Note.TheVariants as note

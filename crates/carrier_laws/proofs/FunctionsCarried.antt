@@ -1,13 +1,10 @@
 -- What is carried of each function of a program, and that its notes begin behind those of the functions before it.
-use Rattle.std.proofs.Common.{◌≡◌, ◌∙◌, ℕ, zero, suc, ◌+◌, List, [], ◌∷◌, ◌++◌, length, slice_get, Bool as Truth, Option, Some, None, Result, Ok, refl, sym, ap, subst, arith, append_assoc}
+use Rattle.std.proofs.Common.{◌≡◌, ◌∙◌, ℕ, zero, suc, ◌+◌, List, [], ◌∷◌, ◌++◌, length, slice_get, Option, Some, None, Ok, refl, sym, ap, subst, arith, append_assoc}
 use Rattle.std.proofs.lemmas.List.{length-append}
 use Rattle.std.specs.List.{list_all}
-use Rattle.state_types.specs.Answers.{◌>>=◌}
 use Rattle.state_types.specs.declared.closed.Packed.{Packed}
 use Rattle.state_types.specs.declared.closed.Signature.{Signature}
-use Rattle.state_types.specs.declared.state.StateType.{StateType}
 use Rattle.state_types.proofs.Thens.{then_ok, ok_same}
-use Rattle.three_address.specs.declared.typed.Edge.{Edge}
 use Rattle.xan_lin.specs.declared.term.LimitKind.TheVariants as limit
 use Rattle.xanadu_tree.specs.Plain as core
 use Rattle.typed_core.specs.Goals.{Elaboration, body_start}
@@ -26,8 +23,7 @@ use Rattle.state_types.specs.Unpacking.{with_rows}
 use Rattle.typed_core.proofs.GrownStatements.{block_goes}
 use Rattle.typed_core.proofs.NamedStates.{answered}
 use Rattle.type_carrier.specs.Carried.{Columns, Functions, functions, function, body_begins, with_function}
-use Rattle.type_carrier.specs.CarriedStatements as carried
-use Rattle.type_carrier.specs.CarriedTests.{Labelled, Sources}
+use Rattle.type_carrier.specs.CarriedTests.{Sources}
 use Rattle.type_carrier.specs.ProvedRows.{Proofs}
 use Rattle.carrier_laws.proofs.DemandsProved.{seam}
 use Rattle.carrier_laws.proofs.OperandsRun.{same_behind, get_more}

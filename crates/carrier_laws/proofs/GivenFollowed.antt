@@ -1,5 +1,5 @@
 -- Rules that give types and take nothing to hold: what follows of them, where there are few variables.
-use Rattle.std.proofs.Common.{◌≡◌, ◌∙◌, ℕ, ◌+◌, ◌≤◌, List, [], ◌∷◌, map, Option, None, Result, Ok, Err, Bool, true, false, cond, refl, sym, ap, subst, arith}
+use Rattle.std.proofs.Common.{◌≡◌, ◌∙◌, ℕ, ◌+◌, ◌≤◌, List, [], ◌∷◌, map, None, Result, Ok, Err, Bool, true, false, cond, refl, ap, arith}
 use Rattle.std.specs.Prelude.{nat_lt, pos}
 use Rattle.index_sorts.specs.Context.{IndexContext, with_variables}
 use Rattle.index_sorts.specs.declared.error.ContextError.{ContextError}
@@ -8,10 +8,9 @@ use Rattle.xan_lin.specs.Linear.{sized}
 use Rattle.xan_lin.specs.Subst.{zero_form}
 use Rattle.xan_lin.specs.declared.term.TooLarge.{TooLarge}
 use Rattle.operation_rules.specs.Applied.{widened, all_assuming, all_given}
-use Rattle.operation_rules.specs.Faults.{Ruling, filled, needed}
-use Rattle.operation_rules.specs.Rules.{Setting, rule, gives}
+use Rattle.operation_rules.specs.Faults.{filled, needed}
+use Rattle.operation_rules.specs.Rules.{rule, gives}
 use Rattle.operation_rules.specs.declared.operation.Operation.TheVariants as operation
-use Rattle.operation_rules.specs.declared.rule.Rule.{Rule}
 use Rattle.state_types.specs.Answers.{◌>>=◌}
 use Rattle.state_types.specs.declared.types.Ty.{Ty}
 use Rattle.state_types.specs.declared.types.Ty.TheVariants as ty

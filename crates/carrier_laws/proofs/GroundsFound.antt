@@ -1,13 +1,12 @@
 -- What a shaped program declares is good: its forms are forms, and its types exist.
-use Rattle.std.proofs.Common.{◌≡◌, ◌≢◌, ◌∙◌, ℕ, zero, suc, ◌+◌, ◌≤◌, ◌<◌, ◌⊎◌, inl, inr, ℤ, pos, negsuc, List, [], ◌∷◌, ◌++◌, map, length, slice_get, Bool as Truth, true, false, Option, Some, None, Result, Ok, Err, refl, sym, ap, subst, arith}
+use Rattle.std.proofs.Common.{◌≡◌, ◌≢◌, ℕ, zero, suc, ◌+◌, ◌≤◌, ◌<◌, ℤ, pos, negsuc, List, [], ◌∷◌, ◌++◌, map, length, slice_get, true, Some, Result, Ok, Err, refl, subst, arith}
 use Rattle.std.specs.Prelude.{nat_le, ◌&&◌, not}
-use Rattle.std.specs.List.{AllByRecursion, list_all}
+use Rattle.std.specs.List.{AllByRecursion}
 use Rattle.std.proofs.lemmas.Bool.Decides.{nat_tests}
 use Rattle.std.proofs.lemmas.Option.{slice_get_within, same_Some}
 use Rattle.xan_lin.specs.Linear.{Linear, IsForm}
 use Rattle.xan_lin.specs.Terms.{IsRising}
 use Rattle.xan_lin.specs.declared.term.LimitKind.TheVariants as limit
-use Rattle.xan_lin.specs.declared.term.Term.{Term}
 use Rattle.xan_lin.specs.declared.term.TooLarge.{TooLarge}
 use Rattle.xan_lin.proofs.Booleans.{both}
 use Rattle.state_types.specs.Answers.{◌>>=◌}
@@ -17,7 +16,7 @@ use Rattle.state_types.specs.declared.closed.Signature.{Signature}
 use Rattle.state_types.specs.declared.types.Ty.{Ty}
 use Rattle.state_types.specs.declared.types.Ty.TheVariants as ty
 use Rattle.operation_rules.specs.Faults.{or_fault}
-use Rattle.operation_rules.specs.Rules.{tuple_at, cell_at}
+use Rattle.operation_rules.specs.Rules.{cell_at}
 use Rattle.operation_rules.specs.declared.error.Fault.TheVariants.{NoType}
 use Rattle.operation_rules.proofs.RuleFacts.{or_fault_ok}
 use Rattle.state_types.proofs.Thens.{then_ok}
@@ -32,14 +31,12 @@ use Rattle.xanadu_tree.specs.Plain as core
 use Rattle.xanadu_tree.specs.Shaped.{IsPacking, IsFunction}
 use Rattle.typed_core.specs.Forms.{term_of, form_of, type_of, forms_from, types_from}
 use Rattle.typed_core.specs.Headers.{closed_type, closed_types, signature, signatures}
-use Rattle.typed_core.specs.Limits.{Walk, within, needed, held}
+use Rattle.typed_core.specs.Limits.{within, needed, held}
 use Rattle.typed_core.specs.States.{Site}
 use Rattle.typed_core.specs.Strays.{is_zero, terms_rise, form_rises, type_rises, is_closed}
 use Rattle.typed_core.proofs.Continued.{Goes, held_known}
 use Rattle.typed_core.proofs.FitOperands.{Suits}
-use Rattle.typed_core.proofs.LimitedAnswers.{then_answers, weaker, any_answer}
-use Rattle.three_address.specs.Typing.{TypeExists}
-use Rattle.carrier_laws.proofs.EdgesReach.{IsTypeForm}
+use Rattle.typed_core.proofs.LimitedAnswers.{then_answers, any_answer}
 use Rattle.xanadu_tree.specs.KindRules.{header}
 use Rattle.xanadu_tree.specs.Shaped.{Shaped}
 use Rattle.typed_core.specs.Goals.{Elaboration}
@@ -48,7 +45,7 @@ use Rattle.source_safety.specs.Recorded.{site_of}
 use Rattle.source_safety.proofs.BodiesStart.{setting_in, IsBody}
 use Rattle.carrier_laws.proofs.PlacesKept.{Grounds}
 use Rattle.carrier_laws.proofs.KeptJoins.{CoreExists}
-use Rattle.carrier_laws.proofs.RulesKept.{IsGood, IsGoodPacked, IsGoodSignature, AreGood, sized_form, variable_is_form}
+use Rattle.carrier_laws.proofs.RulesKept.{IsGood, IsGoodPacked, IsGoodSignature, sized_form, variable_is_form}
 
 -- ---- forms
 

@@ -1,22 +1,17 @@
 -- Where both branches of an `if` meet: the state that is stated there, and the ways in.
-use Rattle.std.proofs.Common.{◌≡◌, ◌∙◌, ℕ, zero, suc, ◌+◌, ◌<◌, ◌≤◌, Bool as Truth, true, false, List, [], ◌∷◌, ◌++◌, length, slice_get, Option, Some, None, Result, Ok, refl, sym, ap, ap₂, subst, arith, append_assoc, append-nil}
-use Rattle.state_types.specs.Answers.{◌>>=◌}
+use Rattle.std.proofs.Common.{◌≡◌, ◌∙◌, ℕ, suc, ◌≤◌, Bool as Truth, true, false, List, [], ◌∷◌, ◌++◌, length, Option, Some, Ok, refl, sym, ap, ap₂, subst, arith, append_assoc}
 use Rattle.state_types.specs.PlaceTypes.{type_at}
 use Rattle.state_types.specs.declared.state.StateType.{StateType}
-use Rattle.state_types.specs.declared.types.Ty.{Ty}
-use Rattle.state_types.proofs.Thens.{then_ok, ok_same}
-use Rattle.index_sorts.specs.Context.{IndexContext}
 use Rattle.three_address.specs.Typing.{GoesTo}
 use Rattle.three_address.specs.declared.typed.Edge.{Edge}
 use Rattle.lowering.specs.Lowered.{number_of}
-use Rattle.lowering.specs.OneInstruction.{jump, jump_if}
+use Rattle.lowering.specs.OneInstruction.{jump_if}
 use Rattle.xanadu_tree.specs.BodyRules.{Point, behind_block, IsClauseIfAny}
 use Rattle.xanadu_tree.specs.KindRules.{Setting}
 use Rattle.xanadu_tree.specs.declared.stmt.Clause.{Clause}
-use Rattle.typed_core.specs.Growth.{Continues, Later}
-use Rattle.typed_core.specs.Joins.{Joint, is_named, stated, joined, entered, entered_if}
-use Rattle.typed_core.specs.States.{Site, State, point}
-use Rattle.typed_core.specs.Statements.{meeting}
+use Rattle.typed_core.specs.Growth.{Continues}
+use Rattle.typed_core.specs.Joins.{Joint, stated, joined, entered, entered_if}
+use Rattle.typed_core.specs.States.{State, point}
 use Rattle.typed_core.specs.declared.note.Note.{Note}
 use Rattle.typed_core.specs.declared.note.Note.TheVariants as note
 use Rattle.typed_core.proofs.FitJoins.{joined_fits, clause_stated}
@@ -36,7 +31,7 @@ use Rattle.carrier_laws.proofs.IfTyped.{edge_if}
 use Rattle.carrier_laws.proofs.JoinsReach.{IsMeeting, ComesFrom}
 use Rattle.carrier_laws.proofs.JumpsTyped.{jump_live}
 use Rattle.carrier_laws.proofs.LabelsMet.{next_label, label_here}
-use Rattle.carrier_laws.proofs.LoopsTyped.{WayLeft, way_left, past_left, own_is}
+use Rattle.carrier_laws.proofs.LoopsTyped.{way_left, past_left, own_is}
 use Rattle.carrier_laws.proofs.MeetingsKnown.{meeting_known}
 use Rattle.carrier_laws.proofs.NamesKept.{Keys}
 use Rattle.carrier_laws.proofs.NotesNoted.{joined_noted}

@@ -1,5 +1,5 @@
 -- The parts of an `if`: its test and both branches are typed where they stand, and the label of the second branch is known before.
-use Rattle.std.proofs.Common.{◌≡◌, ◌∙◌, ℕ, zero, suc, ◌+◌, ◌<◌, ◌≤◌, Bool as Truth, true, false, not, ◌||◌, ◌&&◌, List, [], ◌∷◌, ◌++◌, length, slice_get, Option, Some, None, Result, Ok, refl, sym, ap, ap₂, subst, arith, append_assoc, append-nil}
+use Rattle.std.proofs.Common.{◌≡◌, ◌∙◌, ℕ, suc, ◌+◌, ◌≤◌, Bool as Truth, true, false, ◌||◌, ◌&&◌, List, [], ◌∷◌, ◌++◌, length, Option, Some, None, Ok, refl, sym, ap, ap₂, subst, arith, append_assoc, append-nil}
 use Rattle.std.proofs.lemmas.List.{length-append}
 use Rattle.state_types.specs.PlaceTypes.{type_at}
 use Rattle.index_sorts.specs.Context.{IndexContext}
@@ -8,9 +8,9 @@ use Rattle.state_types.specs.declared.types.Ty.{Ty}
 use Rattle.three_address.specs.declared.instruction.LowInstr.{LowInstr}
 use Rattle.three_address.specs.declared.typed.Edge.{Edge}
 use Rattle.lowering.specs.Frames.{Frame}
-use Rattle.lowering.specs.OneInstruction.{Aim, jump, one_if, jump_if, label_if}
+use Rattle.lowering.specs.OneInstruction.{jump, one_if, jump_if, label_if}
 use Rattle.lowering.specs.StatementCode.{block_size, is_stated, block_code, block_labels, statement_code, statement_labels, first_at, second_at, meet_at, meet, jumps, unless}
-use Rattle.lowering.specs.TestCode.{test_code, test_labels, test_size}
+use Rattle.lowering.specs.TestCode.{test_code, test_labels}
 use Rattle.lowering.proofs.CodeSizes.{test_long, block_long}
 use Rattle.xanadu_tree.specs.BodyRules.{Point, completes_all, behind_block, AreStatements, IsClauseIfAny}
 use Rattle.xanadu_tree.specs.KindRules.{Setting, IsTest}
@@ -44,20 +44,18 @@ use Rattle.typed_core.proofs.KnownTypes.{IsEntry, Knows, AreWithin, entry_at, pr
 use Rattle.typed_core.proofs.TypeKinds.{ty_kind}
 use Rattle.typed_core.proofs.FitStatements.{block_within}
 use Rattle.carrier_laws.proofs.JumpsTyped.{jump_live}
-use Rattle.state_types.specs.Answers.{◌>>=◌}
 use Rattle.carrier_laws.proofs.IfMeets as meets_at
 use Rattle.state_types.proofs.Thens.{then_ok, ok_same}
 use Rattle.carrier_laws.proofs.BlocksAsked.{BlockTyped}
-use Rattle.carrier_laws.proofs.BranchesTyped.{Aims}
 use Rattle.carrier_laws.proofs.FragmentsJoined.{typed_on}
-use Rattle.carrier_laws.proofs.IfTyped.{edge_if, both_meet, second_ends, second_goes_on}
+use Rattle.carrier_laws.proofs.IfTyped.{both_meet, second_ends, second_goes_on}
 use Rattle.carrier_laws.proofs.VisibleEnds.{visible_same, visible_rise}
 use Rattle.carrier_laws.proofs.FragmentsTyped.{sources_of, HasLabels, Coming, LabelAt, AllAhead, Begins, Typed}
 use Rattle.carrier_laws.proofs.LabelsMet.{Formed, next_label, plain_jump, label_here}
-use Rattle.carrier_laws.proofs.LabelsTaken.{Left, TakesAll, all_on, label_taken, test_taken}
+use Rattle.carrier_laws.proofs.LabelsTaken.{Left, TakesAll, all_on, test_taken}
 use Rattle.carrier_laws.proofs.NotesNoted.{SideFacts, sides_facts}
 use Rattle.carrier_laws.proofs.LeavesTyped.{rows_on}
-use Rattle.carrier_laws.proofs.PlacesKept.{Grounds, Facts, Place, facts_of, true_place, block_place, block_left, block_facts, other_place}
+use Rattle.carrier_laws.proofs.PlacesKept.{Grounds, Facts, Place, facts_of, true_place, block_left, block_facts, other_place}
 use Rattle.carrier_laws.proofs.StatementsTaken.{TakesFront, with_front, branches_taken, block_taken}
 use Rattle.carrier_laws.proofs.TestsTyped.{KeepsFacts, test_typed, left_behind, coming_behind, label_made}
 use Rattle.carrier_laws.proofs.WaysTyped.{facts_formed}

@@ -1,38 +1,24 @@
 -- Where the branches of an `if` meet, or one of them goes on: the code of both, one behind the other.
-use Rattle.std.proofs.Common.{◌≡◌, ◌∙◌, ℕ, zero, suc, ◌+◌, ◌<◌, ◌≤◌, Bool as Truth, true, false, ◌||◌, ◌&&◌, List, [], ◌∷◌, ◌++◌, length, slice_get, Option, Some, None, Result, Ok, refl, sym, ap, subst, arith, append_assoc, append-nil}
+use Rattle.std.proofs.Common.{◌≡◌, ◌∙◌, ℕ, suc, ◌+◌, ◌≤◌, Bool as Truth, true, false, List, [], ◌∷◌, ◌++◌, length, slice_get, refl, sym, ap, subst, arith, append_assoc, append-nil}
 use Rattle.std.proofs.lemmas.List.{length-append}
-use Rattle.std.specs.List.{AllZip}
-use Rattle.xan_lin.specs.Linear.{Linear}
-use Rattle.state_types.specs.PlaceTypes.{PlacesRise, type_at}
 use Rattle.state_types.specs.declared.state.StateType.{StateType}
-use Rattle.state_types.specs.declared.types.Ty.{Ty}
-use Rattle.state_types.proofs.Thens.{then_ok, ok_same}
-use Rattle.three_address.specs.Liveness.{Live}
 use Rattle.three_address.specs.Typing.{GoesTo}
 use Rattle.three_address.specs.declared.instruction.LowInstr.{LowInstr}
 use Rattle.three_address.specs.declared.typed.Edge.{Edge}
 use Rattle.lowering.specs.Lowered.{number_of}
-use Rattle.lowering.specs.OneInstruction.{jump, jump_if, label_if}
-use Rattle.lowering.specs.StatementCode.{is_stated}
-use Rattle.xanadu_tree.specs.declared.stmt.Clause.{Clause}
-use Rattle.typed_core.specs.Growth.{Continues}
-use Rattle.typed_core.specs.Joins.{still_visible}
-use Rattle.typed_core.specs.States.{Site, State, point, resuming, noting_state}
-use Rattle.typed_core.specs.Statements.{after_branches, going_on}
+use Rattle.lowering.specs.OneInstruction.{jump, jump_if}
+use Rattle.typed_core.specs.States.{State}
 use Rattle.typed_core.specs.declared.note.Note.{Note}
 use Rattle.typed_core.specs.declared.note.Note.TheVariants as note
-use Rattle.type_carrier.specs.CarriedStatements.{in_front, branches_meet, second_begins}
+use Rattle.type_carrier.specs.CarriedStatements.{in_front, second_begins}
 use Rattle.type_carrier.specs.CarriedTests.{Labelled, Sources, labelled}
-use Rattle.type_carrier.specs.ProvedRows.{plain, behind_front}
 use Rattle.type_carrier.specs.Ways.{label_state}
 use Rattle.carrier_laws.proofs.ChainsTyped.{CodeAt, Done}
-use Rattle.carrier_laws.proofs.OperandsRun.{Walk, IsWalk, Ahead, Here, IsLeft, Within, same_behind}
+use Rattle.carrier_laws.proofs.OperandsRun.{Walk, Here, IsLeft}
 use Rattle.carrier_laws.proofs.DemandsProved.{seam}
-use Rattle.carrier_laws.proofs.FragmentsJoined.{passes_on, ends_on, typed_on}
-use Rattle.carrier_laws.proofs.FragmentsTyped.{sources_of, HasLabels, Coming, LabelAt, AllAhead, Begins, LabelStands, Passes, GoesOn, Ends, Typed}
-use Rattle.carrier_laws.proofs.JumpsTyped.{jump_live}
-use Rattle.carrier_laws.proofs.LabelsMet.{Formed, next_label, plain_jump, label_here}
-use Rattle.carrier_laws.proofs.TestsTyped.{jump_passes, label_behind, label_made, coming_behind}
+use Rattle.carrier_laws.proofs.FragmentsJoined.{passes_on}
+use Rattle.carrier_laws.proofs.FragmentsTyped.{sources_of, HasLabels, Coming, Passes, Typed}
+use Rattle.carrier_laws.proofs.TestsTyped.{jump_passes, label_behind, coming_behind}
 use Rattle.index_sorts.specs.Context.{IndexContext}
 
 module _ (w : Walk) (columns : List (List Truth)) where

@@ -1,12 +1,11 @@
 -- What the instructions of expressions are.
-use Rattle.std.proofs.Common.{◌≡◌, ℕ, zero, suc, ◌+◌, List, [], ◌∷◌, length, Some, None, cond, refl, ap, arith}
+use Rattle.std.proofs.Common.{◌≡◌, ℕ, suc, List, [], ◌∷◌, length, Some, None, cond, refl, ap, arith}
 use Rattle.std.proofs.lemmas.Bool.Decides.{nat_tests}
-use Rattle.std.specs.Prelude.{ℤ, pos, nat_le, true, false, Bool, if◌then◌else◌}
+use Rattle.std.specs.Prelude.{ℤ, nat_le, true, false, Bool}
 use Rattle.std.specs.List.{AllZip}
-use Rattle.operation_rules.specs.declared.operation.Operation.{Operation}
 use Rattle.operation_rules.specs.declared.operation.Operation.TheVariants as operation
 use Rattle.state_types.specs.declared.types.Ty.{Ty}
-use Rattle.three_address.specs.Instructions.{Instruction, instruction_of}
+use Rattle.three_address.specs.Instructions.{instruction_of}
 use Rattle.three_address.specs.declared.instruction.Op22.TheVariants as op
 use Rattle.lowering.specs.OneInstruction.{literal, truth, unary, binary, op_of, called, tuple_made, array_made, compared, in_order}
 use Rattle.xanadu_tree.specs.declared.expr.Op.{Op}
@@ -14,7 +13,6 @@ use Rattle.xanadu_tree.specs.declared.expr.Op.TheVariants as arithmetic
 use Rattle.xanadu_tree.specs.declared.expr.Rel.{Rel}
 use Rattle.xanadu_tree.specs.declared.expr.Rel.TheVariants as rel
 use Rattle.typed_core.specs.Operators as operators
-use Rattle.carrier_laws.proofs.ValuesPlaced.{GoesNext}
 use Rattle.carrier_laws.proofs.OperandsRun.{Walk}
 use Rattle.carrier_laws.proofs.InstructionsStand.{IsInstr}
 

@@ -1,19 +1,17 @@
 -- What a join states, entry by entry and row by row, beside what a way into it gives.
-use Rattle.std.proofs.Common.{◌≡◌, ◌≢◌, ◌∙◌, ℕ, zero, suc, ◌+◌, ◌<◌, ◌≤◌, cond, List, [], ◌∷◌, ◌++◌, map, length, slice_get, Bool as Truth, true, false, ◌⊎◌, inl, inr, Option, Some, None, Result, Ok, Err, refl, sym, ap, ap₂, subst, arith, append_assoc, append-nil, length-append}
-use Rattle.std.specs.Prelude.{◌==◌, ◌&&◌, ◌||◌, not, nat_le}
-use Rattle.std.specs.List.{All, AllZip, AllByRecursion, list_any}
-use Rattle.std.proofs.lemmas.List.Elements.{All-nil, All-cons, All-head, All-tail}
+use Rattle.std.proofs.Common.{◌≡◌, ◌∙◌, ℕ, zero, suc, ◌+◌, cond, List, [], ◌∷◌, ◌++◌, map, length, slice_get, Bool as Truth, true, false, ◌⊎◌, inl, inr, Option, Some, None, Result, Ok, Err, refl, sym, ap, subst, arith}
+use Rattle.std.specs.Prelude.{◌==◌, ◌||◌, nat_le}
+use Rattle.std.specs.List.{AllZip, AllByRecursion, list_any}
 use Rattle.index_sorts.specs.Context.{IndexContext}
 use Rattle.index_sorts.specs.Known.{holds_always, knows, with_row}
 use Rattle.index_sorts.specs.declared.error.ContextError.{ContextError}
 use Rattle.index_sorts.specs.declared.error.ContextError.TheVariants as context_error
-use Rattle.xan_lin.specs.Linear.{Linear, IsForm, NamesBelow, variable_form}
+use Rattle.xan_lin.specs.Linear.{Linear, IsForm}
 use Rattle.xan_lin.specs.Same.{same_form}
 use Rattle.xan_lin.specs.declared.term.TooLarge.{TooLarge}
 use Rattle.xan_lin.proofs.Booleans.{equal}
 use Rattle.xan_lin.proofs.EqualForms.{Decides-same_form}
-use Rattle.state_types.specs.Answers.{◌>>=◌}
-use Rattle.state_types.specs.Types.{index_of, same_kind, TypeBelow}
+use Rattle.state_types.specs.Types.{index_of, same_kind}
 use Rattle.state_types.specs.PlaceTypes.{type_at}
 use Rattle.state_types.specs.declared.types.Ty.{Ty}
 use Rattle.state_types.specs.declared.types.Ty.TheVariants as ty
@@ -22,9 +20,8 @@ use Rattle.operation_rules.specs.Applied as rules
 use Rattle.operation_rules.specs.Applied.{all_assuming}
 use Rattle.xanadu_tree.specs.declared.types.CoreTy.{CoreTy}
 use Rattle.typed_core.specs.Joins.{is_named, leading, first_past}
-use Rattle.source_safety.proofs.JoinTypes.{HasIndex}
 use Rattle.carrier_laws.proofs.EdgesReach.{IsTypeForm}
-use Rattle.carrier_laws.proofs.MatchedRows.{TypeMet, RowMet}
+use Rattle.carrier_laws.proofs.MatchedRows.{TypeMet}
 use Rattle.carrier_laws.proofs.WayRows.{Among}
 
 -- ---- rows that a context has after some were taken to hold

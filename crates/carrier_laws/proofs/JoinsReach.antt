@@ -1,41 +1,36 @@
 -- The jump by which a branch or a body comes to a join is typed, at a label that has the join's state cut to live places.
-use Rattle.std.proofs.Common.{◌≡◌, ◌≢◌, ◌∙◌, ℕ, zero, suc, ◌+◌, ◌<◌, ◌≤◌, cond, List, [], ◌∷◌, ◌++◌, map, length, slice_get, Bool as Truth, true, false, ◌⊎◌, inl, inr, Option, Some, None, Result, Ok, Err, refl, sym, ap, ap₂, subst, arith, append_assoc, append-nil, length-append}
-use Rattle.std.specs.Prelude.{◌==◌, ◌&&◌, ◌||◌, not}
+use Rattle.std.proofs.Common.{◌≡◌, ◌∙◌, ℕ, suc, ◌+◌, ◌<◌, ◌≤◌, List, [], ◌∷◌, ◌++◌, length, slice_get, Bool as Truth, true, false, ◌⊎◌, inl, inr, Option, Some, None, Ok, refl, sym, ap, ap₂, subst, arith, length-append}
+use Rattle.std.specs.Prelude.{◌&&◌, not}
 use Rattle.std.specs.List.{All, AllZip, AllByRecursion}
 use Rattle.std.proofs.lemmas.List.Elements.{All-nil, All-cons, All-head, All-tail}
 use Rattle.std.proofs.lemmas.Option.{same_Some}
 use Rattle.index_sorts.specs.Context.{IndexContext}
 use Rattle.xan_lin.specs.Linear.{Linear, IsForm, NamesBelow, variable_form}
 use Rattle.xan_lin.specs.Subst.{listed as value_listed, subst_of}
-use Rattle.xan_lin.specs.declared.term.TooLarge.{TooLarge}
 use Rattle.state_types.specs.Matching.{index_rows}
 use Rattle.state_types.specs.PlaceTypes.{type_at, PlacesRise}
 use Rattle.state_types.specs.Types.{index_of, same_kind, TypeBelow}
 use Rattle.state_types.specs.declared.state.StateType.{StateType}
 use Rattle.state_types.specs.declared.types.Ty.{Ty}
 use Rattle.state_types.specs.declared.types.Ty.TheVariants as ty
-use Rattle.operation_rules.specs.Forms.{variables_from}
 use Rattle.three_address.specs.LiveLabels.{live_mark}
 use Rattle.three_address.specs.Typing.{Reaches}
-use Rattle.three_address.specs.declared.typed.Edge.{Edge}
 use Rattle.xanadu_tree.specs.declared.stmt.Clause.{Clause}
 use Rattle.xanadu_tree.specs.declared.types.CoreTy.{CoreTy}
 use Rattle.typed_core.specs.Growth.{Continues}
 use Rattle.typed_core.specs.Joins.{is_named, has_index, is_renewed, with_index, with_types, leading, first_past, Joint}
 use Rattle.typed_core.specs.Proving.{ProveAll}
 use Rattle.typed_core.specs.States.{Site, State, point, all_asked, none_asked, noting_state}
-use Rattle.typed_core.specs.Strays.{values_rise}
-use Rattle.typed_core.specs.declared.note.Note.TheVariants as note
 use Rattle.typed_core.proofs.NamedStates.{all_assumed_vars}
 use Rattle.source_safety.proofs.JoinParts.{IsJoined}
-use Rattle.source_safety.proofs.JoinTypes.{HasIndex, IsFresh, IsKept, renewed_kept, IsOther, others_unnamed, stated_over}
+use Rattle.source_safety.proofs.JoinTypes.{HasIndex, IsFresh, IsKept, renewed_kept, others_unnamed, stated_over}
 use Rattle.type_carrier.specs.ProvedRows.{Proofs, way}
-use Rattle.type_carrier.specs.Ways.{first_own, label_state, present_at, place_rows, rows_or_none, rising_edge, all_by, way_edge}
+use Rattle.type_carrier.specs.Ways.{first_own, label_state, place_rows, rows_or_none, rising_edge, all_by, way_edge}
 use Rattle.carrier_laws.proofs.CountedValues.{Counted, counted_on, counted_rise, counted_test, listed_at, listed_stands}
-use Rattle.carrier_laws.proofs.EdgesReach.{IsTypeForm, IsIn, FormIn, TypeIn, form_met, rows_alike, form_before, same_index, PlaceMet, OwnMet, label_met}
+use Rattle.carrier_laws.proofs.EdgesReach.{IsTypeForm, FormIn, TypeIn, form_met, rows_alike, form_before, same_index, PlaceMet, OwnMet, label_met}
 use Rattle.carrier_laws.proofs.FormsKept.{subst_alone}
 use Rattle.carrier_laws.proofs.JoinsMet.{assumed_from, leading_all, known_among, each_among, zip_get, get_behind, stated_type, named_among, index_form}
-use Rattle.carrier_laws.proofs.LivePlaces.{live_of, live_places_are, live_all, found_among}
+use Rattle.carrier_laws.proofs.LivePlaces.{live_places_are, live_all, found_among}
 use Rattle.carrier_laws.proofs.MatchedRows.{RowMet}
 use Rattle.carrier_laws.proofs.WayRows.{Among, among_left, AreAsked, Sought, are_asked}
 use Rattle.carrier_laws.proofs.WaysEntered.{IsWay, keys_stated, named_present, unnamed_present}

@@ -1,17 +1,14 @@
 -- A jump is allowed where its label is reached, whatever state type stands behind it.
-use Rattle.std.proofs.Common.{◌≡◌, ◌∙◌, ℕ, zero, suc, ◌+◌, ◌<◌, ◌≤◌, Bool as Truth, List, [], ◌∷◌, ◌++◌, length, map, slice_get, Option, Some, None, Result, Ok, refl, sym, ap, subst, arith}
-use Rattle.std.specs.List.{All, Contains}
+use Rattle.std.proofs.Common.{◌≡◌, ◌∙◌, ℕ, ◌+◌, ◌≤◌, Bool as Truth, List, [], ◌∷◌, slice_get, Option, Some, Ok, refl, sym, ap, subst, arith}
+use Rattle.std.specs.List.{Contains}
 use Rattle.operation_rules.specs.Applied.{all_there, named}
 use Rattle.operation_rules.specs.Rules.{Setting, rule, gives}
 use Rattle.operation_rules.specs.declared.operation.Operation.TheVariants.{Jump}
-use Rattle.state_types.specs.PlaceTypes.{type_at}
 use Rattle.state_types.specs.declared.state.StateType.{StateType}
-use Rattle.state_types.specs.declared.types.Ty.{Ty}
 use Rattle.three_address.specs.Flow.{ways, ways_of, ways_from, label_at, target_of}
 use Rattle.three_address.specs.Instructions.{Instruction, instruction_of}
 use Rattle.three_address.specs.Liveness.{Live, Kept}
 use Rattle.three_address.specs.Typing.{Allows, GoesTo, ruled_in}
-use Rattle.three_address.specs.declared.instruction.LowInstr.{LowInstr}
 use Rattle.three_address.specs.declared.typed.Edge.{Edge}
 use Rattle.lowering.specs.Lowered.{number_of}
 use Rattle.lowering.specs.OneInstruction.{jump}

@@ -1,8 +1,7 @@
 -- Where control flow meets, what elaboration keeps of states is kept.
-use Rattle.std.proofs.Common.{◌≡◌, ◌∙◌, ℕ, zero, suc, ◌+◌, ◌≤◌, ◌<◌, List, [], ◌∷◌, ◌++◌, map, length, Bool as Truth, true, false, cond, Option, Some, None, Result, Ok, Err, refl, sym, ap, ap₂, subst, arith, append_assoc, append-nil}
-use Rattle.std.specs.Prelude.{◌==◌}
+use Rattle.std.proofs.Common.{◌≡◌, ◌∙◌, ℕ, suc, ◌+◌, ◌≤◌, ◌<◌, List, [], ◌∷◌, ◌++◌, map, length, Bool as Truth, true, false, Option, Some, None, Result, Ok, Err, refl, sym, ap, subst, arith, append_assoc, append-nil}
 use Rattle.std.specs.List.{AllByRecursion, list_all}
-use Rattle.index_sorts.specs.Context.{IndexContext, with_variables}
+use Rattle.index_sorts.specs.Context.{IndexContext}
 use Rattle.xan_lin.specs.Linear.{Linear, IsForm, variable_form}
 use Rattle.xan_lin.specs.Subst.{subst_of}
 use Rattle.xan_lin.specs.declared.term.LimitKind.TheVariants as limit
@@ -27,16 +26,15 @@ use Rattle.xanadu_tree.specs.declared.types.CoreTy.TheVariants as core_ty
 use Rattle.typed_core.specs.Forms.{form_of, type_of, renamed, renamed_type}
 use Rattle.typed_core.specs.Joins.{with_index, Renewed, is_renewed, with_entry, few_places, renewed, renewing, naming_more, stating, stated_types, with_types, Joint, joined, within_bounds, values_at, met_there, entered, entered_if, type_or, still_visible}
 use Rattle.typed_core.specs.Limits.{within, needed, by_rule, held}
-use Rattle.typed_core.specs.States.{Site, State, resuming, with_fresh, assuming, noting_state, none_asked}
+use Rattle.typed_core.specs.States.{Site, State, resuming, with_fresh, assuming, noting_state}
 use Rattle.typed_core.specs.Strays.{clause_rises, values_rise, row_below}
 use Rattle.typed_core.specs.Growth.{Continues}
 use Rattle.typed_core.proofs.Continued.{Goes}
 use Rattle.typed_core.proofs.GrownContexts.{filled_goes, by_rule_goes}
 use Rattle.typed_core.proofs.KnownTypes.{entry_at, all_with_type}
 use Rattle.typed_core.proofs.LimitedAnswers.{then_answers, any_answer}
-use Rattle.three_address.specs.Typing.{TypeExists}
 use Rattle.carrier_laws.proofs.KeptStates.{Kept, widened_few}
-use Rattle.carrier_laws.proofs.RowsStand.{AreSound, Behind, assumed_stand}
+use Rattle.carrier_laws.proofs.RowsStand.{AreSound, assumed_stand}
 use Rattle.carrier_laws.proofs.RulesKept.{IsGood, IsFormIfAny, IsGoodIfAny, replaced_form, variable_is_form}
 
 -- ---- keys

@@ -1,13 +1,12 @@
 -- Statements keep what elaboration keeps of states, and index variables in scope keep their names.
-use Rattle.std.proofs.Common.{◌≡◌, ◌∙◌, ℕ, zero, suc, ◌+◌, ◌≤◌, ◌<◌, ◌⊎◌, inl, inr, List, [], ◌∷◌, ◌++◌, map, length, Bool as Truth, true, false, cond, Option, Some, None, Result, Ok, Err, refl, sym, ap, subst, arith, append-nil}
+use Rattle.std.proofs.Common.{◌≡◌, ◌∙◌, ℕ, suc, ◌+◌, ◌≤◌, inl, inr, List, [], ◌∷◌, ◌++◌, length, Bool as Truth, true, false, cond, Option, Some, None, Ok, Err, refl, sym, ap, subst, arith, append-nil}
 use Rattle.std.specs.Prelude.{◌||◌}
 use Rattle.std.specs.List.{AllByRecursion}
 use Rattle.xan_lin.specs.Linear.{Linear}
 use Rattle.xan_lin.specs.Subst.{zero_form}
 use Rattle.xan_lin.specs.declared.term.LimitKind.TheVariants as limit
 use Rattle.xan_seq.proofs.RisingKeys.{KeysRise-with}
-use Rattle.state_types.specs.Answers.{◌>>=◌}
-use Rattle.state_types.specs.PlaceTypes.{type_at, with_type, PlacesRise}
+use Rattle.state_types.specs.PlaceTypes.{type_at, PlacesRise}
 use Rattle.state_types.specs.Types.{same_kind}
 use Rattle.state_types.specs.declared.closed.Packed.{Packed}
 use Rattle.state_types.specs.declared.state.StateType.{StateType}
@@ -17,7 +16,7 @@ use Rattle.operation_rules.specs.declared.operation.Operation.TheVariants.{Untup
 use Rattle.operation_rules.specs.Forms.{variables_from}
 use Rattle.xanadu_tree.specs.declared.stmt.Clause.{Clause}
 use Rattle.xanadu_tree.specs.declared.types.CoreTy.{CoreTy}
-use Rattle.xanadu_tree.specs.BodyRules.{Point, behind_block, stating, completes, completes_all, MayFollow, IsType, IsStated, IsClauseIfAny, IsTarget, IsStatement, AreStatements}
+use Rattle.xanadu_tree.specs.BodyRules.{Point, behind_block, completes, completes_all, MayFollow, IsType, IsStated, IsClauseIfAny, IsTarget, IsStatement, AreStatements}
 use Rattle.xanadu_tree.specs.IndexRules.{Stretch, stretch_of}
 use Rattle.xanadu_tree.specs.KindRules.{Setting}
 use Rattle.xanadu_tree.specs.Plain as core
@@ -28,17 +27,17 @@ use Rattle.typed_core.specs.Limits.{Walk, Misfit, within}
 use Rattle.typed_core.specs.Operands.{operand}
 use Rattle.typed_core.specs.States.{Site, State, point, resuming, noting_state, as_tuple, like, given}
 use Rattle.typed_core.specs.Statements.{assigned, all_given, split, store, done, printed, returning, Branches, meeting, after_branches, other_branch, statement, block}
-use Rattle.typed_core.specs.Tests.{Sides, tested, on_side}
+use Rattle.typed_core.specs.Tests.{tested, on_side}
 use Rattle.typed_core.proofs.Continued.{Goes, no_more, more_again}
 use Rattle.typed_core.proofs.GrownContexts.{Onward, onward_again, types_by_goes, state_by_goes}
 use Rattle.typed_core.proofs.GrownOperands.{operand_goes}
 use Rattle.typed_core.proofs.GrownTests.{tested_goes}
 use Rattle.typed_core.proofs.KnownTypes.{all_with_type}
-use Rattle.typed_core.proofs.LimitedAnswers.{Anything, then_answers, weaker, any_answer}
-use Rattle.typed_core.proofs.NamedJoins.{clause_next, clause_indices}
+use Rattle.typed_core.proofs.LimitedAnswers.{then_answers, weaker, any_answer}
+use Rattle.typed_core.proofs.NamedJoins.{clause_indices}
 use Rattle.typed_core.proofs.NamedStates.{both_answers}
 use Rattle.carrier_laws.proofs.KeptJoins.{CoreExists, joined_kept, JoinsWell, entered_kept, entered_if_kept, resumed_kept, still_kept}
-use Rattle.carrier_laws.proofs.KeptStates.{Kept, zero_is_form, types_kept, state_kept, operand_kept, tested_kept, WellSides, side_kept, noted_kept}
+use Rattle.carrier_laws.proofs.KeptStates.{Kept, zero_is_form, types_kept, state_kept, operand_kept, tested_kept, side_kept, noted_kept}
 use Rattle.carrier_laws.proofs.NamesKept.{Keys, InScope, scope_more, keys_later, keys_behind, scope_behind}
 use Rattle.carrier_laws.proofs.RowsStand.{AreSound}
 use Rattle.carrier_laws.proofs.RulesKept.{IsGood, AreGood}

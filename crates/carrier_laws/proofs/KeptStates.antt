@@ -1,6 +1,6 @@
 -- What elaboration keeps of every state: its rows are forms and state themselves, its types are good, places rise, and variables are few.
 -- Expressions and tests keep it.
-use Rattle.std.proofs.Common.{◌≡◌, ◌∙◌, ℕ, zero, suc, ◌+◌, ◌≤◌, nat_lt, cond, List, [], ◌∷◌, ◌++◌, map, length, Bool as Truth, true, false, Option, Some, None, Result, Ok, Err, refl, sym, ap, subst, arith}
+use Rattle.std.proofs.Common.{◌≡◌, ℕ, ◌+◌, ◌≤◌, nat_lt, cond, List, [], ◌∷◌, ◌++◌, Bool as Truth, true, false, Option, Some, None, Result, Ok, Err, refl, sym, subst, arith}
 use Rattle.std.specs.List.{AllByRecursion}
 use Rattle.index_sorts.specs.Context.{IndexContext, with_variables}
 use Rattle.index_sorts.specs.declared.error.ContextError.{ContextError}
@@ -15,7 +15,7 @@ use Rattle.state_types.specs.declared.closed.Packed.{Packed}
 use Rattle.state_types.specs.declared.types.Ty.{Ty}
 use Rattle.state_types.specs.declared.types.Ty.TheVariants as ty
 use Rattle.operation_rules.specs.Applied.{widened, all_assuming, all_given}
-use Rattle.operation_rules.specs.Faults.{Ruling, filled, needed}
+use Rattle.operation_rules.specs.Faults.{filled, needed}
 use Rattle.operation_rules.specs.Rules.{rule}
 use Rattle.operation_rules.specs.Sides.{side}
 use Rattle.operation_rules.specs.declared.operation.Operation.{Operation}
@@ -35,10 +35,10 @@ use Rattle.typed_core.specs.Tests.{Sides, branched, truth_leaf, leaf, on_side, t
 use Rattle.typed_core.proofs.Continued.{Goes}
 use Rattle.typed_core.proofs.GrownContexts.{filled_goes, by_rule_goes}
 use Rattle.typed_core.proofs.KnownTypes.{entry_at}
-use Rattle.typed_core.proofs.LimitedAnswers.{Anything, then_answers, weaker, any_answer}
+use Rattle.typed_core.proofs.LimitedAnswers.{then_answers, any_answer}
 use Rattle.typed_core.proofs.NamedStates.{known_answer}
-use Rattle.carrier_laws.proofs.RowsStand.{StandAgain, AreSound, Behind, assumed_stand}
-use Rattle.carrier_laws.proofs.RulesKept.{IsGood, IsFormIfAny, IsGoodIfAny, AreGood, MakesGood, rule_good, side_good}
+use Rattle.carrier_laws.proofs.RowsStand.{AreSound, assumed_stand}
+use Rattle.carrier_laws.proofs.RulesKept.{IsGood, IsGoodIfAny, AreGood, MakesGood, rule_good, side_good}
 
 pub record Kept (table : List Packed) (st : State) : Type 0 where
   pub rows : AreSound st.ctx.rows

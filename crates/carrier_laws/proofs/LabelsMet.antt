@@ -1,5 +1,5 @@
 -- The label at a position: a plain jump reaches it, and elaboration stands there.
-use Rattle.std.proofs.Common.{◌≡◌, ◌∙◌, ℕ, zero, suc, ◌+◌, ◌<◌, ◌≤◌, ◌==◌, Bool as Truth, true, false, List, [], ◌∷◌, ◌++◌, length, slice_get, Option, Some, None, refl, sym, ap, subst, arith, append_assoc}
+use Rattle.std.proofs.Common.{◌≡◌, ◌∙◌, ℕ, suc, ◌<◌, ◌≤◌, Bool as Truth, true, List, [], ◌∷◌, ◌++◌, length, slice_get, Some, refl, sym, ap, subst, arith}
 use Rattle.std.specs.List.{AllByRecursion}
 use Rattle.lowering.specs.CodeBlocks.{Spaced}
 use Rattle.lowering.specs.Lowered.{next_number, number_of}
@@ -8,7 +8,6 @@ use Rattle.state_types.specs.Types.{index_of}
 use Rattle.state_types.specs.declared.closed.Signature.{Signature}
 use Rattle.state_types.specs.declared.state.StateType.{StateType}
 use Rattle.state_types.specs.declared.types.Ty.{Ty}
-use Rattle.three_address.specs.Flow.{label_at}
 use Rattle.three_address.specs.LiveLabels.{live_mark}
 use Rattle.three_address.specs.Liveness.{Live}
 use Rattle.three_address.specs.Typing.{GoesTo}
@@ -19,13 +18,12 @@ use Rattle.typed_core.specs.declared.note.Note.{Note}
 use Rattle.xan_lin.specs.Linear.{Linear}
 use Rattle.xan_seq.proofs.NumberTests.{equal, unequal}
 use Rattle.type_carrier.specs.ProvedRows.{plain}
-use Rattle.type_carrier.specs.Ways.{label_state, live_places}
+use Rattle.type_carrier.specs.Ways.{label_state}
 use Rattle.carrier_laws.proofs.DemandsProved.{seam}
 use Rattle.carrier_laws.proofs.OperandsRun.{Walk, Here, IsLeft, Within, get_more}
 use Rattle.carrier_laws.proofs.FragmentsTyped.{HasLabels, Coming, LabelAt}
-use Rattle.carrier_laws.proofs.LivePlaces.{live_of, live_places_are, live_all, live_at, found_among}
+use Rattle.carrier_laws.proofs.LivePlaces.{live_places_are, live_all, live_at, found_among}
 use Rattle.carrier_laws.proofs.PlainWays.{Stays, IndexStays, IsMet, meets_reaches}
-use Rattle.carrier_laws.proofs.WayRows.{Among}
 
 -- forms over so many variables, which stay what they are where there are more; places rise
 pub record Formed (n : ℕ) (rows : List Linear) (types : List (ℕ × Ty)) : Type 0 where

@@ -1,31 +1,22 @@
 -- The same of tests and statements, whose labels take the states that elaboration noted: as many states are made as there are labels.
-use Rattle.std.proofs.Common.{◌≡◌, ◌∙◌, ℕ, zero, suc, ◌+◌, Bool as Truth, true, false, not, ◌&&◌, ◌||◌, List, [], ◌∷◌, ◌++◌, length, Option, Some, None, refl, sym, ap, subst, arith, append_assoc, append-nil}
+use Rattle.std.proofs.Common.{◌≡◌, ◌∙◌, ℕ, ◌+◌, Bool as Truth, true, false, not, List, [], ◌∷◌, ◌++◌, length, None, refl, sym, ap, subst, arith, append_assoc, append-nil}
 use Rattle.std.specs.Prelude.{option_to_list}
 use Rattle.std.proofs.lemmas.List.{length-append}
-use Rattle.lowering.specs.OneInstruction.{one_if, label_if}
-use Rattle.lowering.specs.StatementCode.{statement_labels, block_labels, statement_size, first_at, second_at, meet_at, behind_loop, meet, is_stated}
+use Rattle.lowering.specs.OneInstruction.{label_if}
 use Rattle.lowering.specs.TestCode.{test_labels, parts_labels, past_parts, inner_on, turn, test_size}
 use Rattle.operation_rules.specs.Applied.{all_assuming}
 use Rattle.operation_rules.specs.Faults.{filled}
 use Rattle.operation_rules.specs.Sides.{side}
 use Rattle.operation_rules.specs.declared.operation.Operation.{Operation}
-use Rattle.operation_rules.specs.declared.operation.Operation.TheVariants.{Branch, BranchTruth, Untuple, Store, Print, Return}
+use Rattle.operation_rules.specs.declared.operation.Operation.TheVariants.{Branch, BranchTruth}
 use Rattle.state_types.specs.declared.state.StateType.{StateType}
 use Rattle.state_types.specs.declared.types.Ty.{Ty}
-use Rattle.state_types.specs.declared.types.Ty.TheVariants as ty
-use Rattle.xan_lin.specs.Linear.{Linear}
-use Rattle.xan_lin.specs.Subst.{zero_form}
-use Rattle.xanadu_tree.specs.BodyRules.{completes_all}
-use Rattle.xanadu_tree.specs.declared.stmt.Clause.{Clause}
 use Rattle.xanadu_tree.specs.Plain as core
-use Rattle.typed_core.specs.Constructs.{types_by, state_by}
-use Rattle.typed_core.specs.Joins.{Joint, changes_any, stated, joined, entered, entered_if, renewing, stating, stated_types, met_there, within_bounds, values_at}
-use Rattle.typed_core.specs.Limits.{Walk, by_rule}
+use Rattle.typed_core.specs.Constructs.{state_by}
+use Rattle.typed_core.specs.Limits.{by_rule}
 use Rattle.typed_core.specs.Operands.{operand}
 use Rattle.typed_core.specs.Operators.{comparison_of, in_order}
-use Rattle.typed_core.specs.Statements.{assigned, all_given, split, store, done, printed, returning, Branches, meeting, after_branches, other_branch}
-use Rattle.typed_core.specs.Statements as elaborated
-use Rattle.typed_core.specs.States.{Site, State, given, as_tuple, noting_state, point, resuming, with_fresh, assuming}
+use Rattle.typed_core.specs.States.{Site, State, noting_state}
 use Rattle.typed_core.specs.Tests.{Sides, branched, truth_leaf, on_side, tested, all_true, all_false}
 use Rattle.typed_core.specs.Tests as elaborated_tests
 use Rattle.typed_core.specs.declared.note.Note.{Note}
@@ -36,10 +27,8 @@ use Rattle.typed_core.proofs.LimitedAnswers.{then_answers, weaker, any_answer}
 use Rattle.type_carrier.specs.CarriedValues.{Carried, plainly, demanded, value}
 use Rattle.type_carrier.specs.CarriedValues as carried
 use Rattle.type_carrier.specs.CarriedTests.{Labelled, Sources, state_here, next_state, labelled, labelled_if, past_note, jump_plainly, leaf, test, parts_carried}
-use Rattle.type_carrier.specs.CarriedStatements.{statement, block, way_if, in_front, branches_meet, second_begins, turned, returned}
-use Rattle.type_carrier.specs.CarriedStatements as statements
-use Rattle.type_carrier.specs.ProvedRows.{Proofs, behind_front}
-use Rattle.carrier_laws.proofs.NotesTaken.{Takes, takes_none, takes_on, takes_as, at_note, state_taken, types_taken, operand_taken, value_taken}
+use Rattle.type_carrier.specs.ProvedRows.{behind_front}
+use Rattle.carrier_laws.proofs.NotesTaken.{Takes, takes_on, takes_as, at_note, state_taken, operand_taken}
 
 -- what is left of the notes, and how many states were made
 pub record Left (l more : Labelled) (rest : List Note) (count : ℕ) : Type 0 where

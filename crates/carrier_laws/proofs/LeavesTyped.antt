@@ -1,19 +1,17 @@
 -- The leaves of tests: a comparison, or a truth value, and the branch behind it.
-use Rattle.std.proofs.Common.{◌≡◌, ◌∙◌, ℕ, zero, suc, ◌+◌, ◌<◌, ◌≤◌, Bool as Truth, true, false, not, List, [], ◌∷◌, ◌++◌, length, Option, Some, None, Result, Ok, Err, refl, sym, ap, subst, arith, append_assoc}
+use Rattle.std.proofs.Common.{◌≡◌, ◌∙◌, ℕ, ◌≤◌, Bool as Truth, true, false, not, List, [], ◌∷◌, ◌++◌, None, Ok, Err, refl, sym, ap, subst, append_assoc}
 use Rattle.std.specs.Prelude.{pos}
 use Rattle.std.specs.List.{AllZip}
 use Rattle.index_sorts.specs.Context.{IndexContext}
 use Rattle.xan_lin.specs.Linear.{Linear}
 use Rattle.operation_rules.specs.Applied.{named, all_assuming}
-use Rattle.operation_rules.specs.Faults.{Ruling, filled}
+use Rattle.operation_rules.specs.Faults.{filled}
 use Rattle.operation_rules.specs.Rules.{Setting, rule, gives, two_types, two_numbers, as_number, one_type, as_truth}
 use Rattle.operation_rules.specs.Sides.{side}
 use Rattle.operation_rules.specs.declared.operation.Operation.{Operation}
 use Rattle.operation_rules.specs.declared.operation.Operation.TheVariants.{Branch, BranchTruth}
 use Rattle.operation_rules.specs.declared.rule.Rule.{Rule}
 use Rattle.operation_rules.proofs.WordsRead.{two_types_is, as_number_is, one_type_is}
-use Rattle.state_types.specs.Answers.{◌>>=◌}
-use Rattle.state_types.specs.PlaceTypes.{type_at}
 use Rattle.state_types.specs.declared.state.StateType.{StateType}
 use Rattle.state_types.specs.declared.types.Ty.{Ty}
 use Rattle.state_types.specs.declared.types.Ty.TheVariants as ty
@@ -22,7 +20,7 @@ use Rattle.three_address.specs.Instructions.{instruction_of}
 use Rattle.three_address.specs.declared.instruction.LowInstr.{LowInstr}
 use Rattle.three_address.specs.declared.instruction.Op22.TheVariants as op
 use Rattle.lowering.specs.Frames.{operand_place}
-use Rattle.lowering.specs.OneInstruction.{Aim, instr, in_order, comparison, that_is, branch, truth_op, truth_branch}
+use Rattle.lowering.specs.OneInstruction.{Aim, instr, in_order, comparison, that_is, truth_op, truth_branch}
 use Rattle.lowering.specs.TestCode.{leaf_code}
 use Rattle.lowering.specs.ValueCode.{operand_at}
 use Rattle.xanadu_tree.specs.KindRules.{HasKind, Setting as KindSetting}
@@ -31,7 +29,7 @@ use Rattle.xanadu_tree.specs.declared.expr.Rel.TheVariants as rel
 use Rattle.xanadu_tree.specs.declared.types.Kind.TheVariants as kind
 use Rattle.xanadu_tree.specs.Plain as core
 use Rattle.typed_core.specs.Constructs.{setting_of, followed, types_by, state_by}
-use Rattle.typed_core.specs.Limits.{Walk as Limited, by_rule}
+use Rattle.typed_core.specs.Limits.{by_rule}
 use Rattle.typed_core.specs.Operands.{operand}
 use Rattle.typed_core.specs.Operators.{comparison_of}
 use Rattle.typed_core.specs.Operators as operators
@@ -42,18 +40,18 @@ use Rattle.type_carrier.specs.CarriedValues.{Carried, plainly}
 use Rattle.type_carrier.specs.CarriedValues as carried
 use Rattle.type_carrier.specs.CarriedTests as carried_tests
 use Rattle.carrier_laws.proofs.ChainsTyped.{CodeAt, code_left}
-use Rattle.carrier_laws.proofs.ConstructsTyped.{TwoWait, two_wait, earlier}
+use Rattle.carrier_laws.proofs.ConstructsTyped.{two_wait, earlier}
 use Rattle.carrier_laws.proofs.ExpressionsTyped.{operand_typed}
 use Rattle.carrier_laws.proofs.GivenFollowed.{given_follow}
 use Rattle.carrier_laws.proofs.InstructionsFound.{sides_in_order}
 use Rattle.carrier_laws.proofs.OperandsRun.{Walk, IsWalk, Ahead, Here, Waits}
 use Rattle.carrier_laws.proofs.OperandsTyped.{OperandTyped}
-use Rattle.carrier_laws.proofs.OperationsTyped.{Follows, types_followed, promised}
+use Rattle.carrier_laws.proofs.OperationsTyped.{types_followed, promised}
 use Rattle.typed_core.proofs.GrownContexts.{Onward, state_by_goes}
 use Rattle.carrier_laws.proofs.ValuesPlaced.{Where}
 use Rattle.carrier_laws.proofs.FragmentsTyped.{HasLabels}
 use Rattle.carrier_laws.proofs.LabelsMet.{Formed}
-use Rattle.carrier_laws.proofs.BranchesTyped.{Aims, Branches, IsBranch, Branched, branch_typed}
+use Rattle.carrier_laws.proofs.BranchesTyped.{Aims, IsBranch, Branched, branch_typed}
 
 -- the rows on a side
 abbrev pub rows_on : Truth → Sides → List Linear

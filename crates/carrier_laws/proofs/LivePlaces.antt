@@ -1,7 +1,7 @@
 -- The places that a label lists: those of the noted state that are live there.
-use Rattle.std.proofs.Common.{◌≡◌, ◌≢◌, ◌∙◌, ℕ, zero, suc, ◌≤◌, ◌==◌, cond, List, [], ◌∷◌, ◌++◌, Bool as Truth, true, false, ◌⊎◌, inl, inr, Option, Some, None, refl, sym, ap, subst, arith, append_assoc, append-nil}
+use Rattle.std.proofs.Common.{◌≡◌, ◌∙◌, ℕ, suc, ◌≤◌, ◌==◌, cond, List, [], ◌∷◌, ◌++◌, Bool as Truth, true, false, inl, inr, Option, Some, refl, sym, ap, arith, append_assoc, append-nil}
 use Rattle.std.specs.List.{AllByRecursion}
-use Rattle.xan_seq.specs.Rising.{KeysRise, value_under}
+use Rattle.xan_seq.specs.Rising.{KeysRise}
 use Rattle.xan_lin.proofs.Booleans.{equal, unequal}
 use Rattle.state_types.specs.PlaceTypes.{type_at}
 use Rattle.state_types.specs.declared.types.Ty.{Ty}

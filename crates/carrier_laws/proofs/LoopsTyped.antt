@@ -1,33 +1,28 @@
 -- A loop is typed: a jump to its head, the test, the body, and a jump back.
-use Rattle.std.proofs.Common.{◌≡◌, ◌∙◌, ℕ, zero, suc, ◌+◌, ◌<◌, ◌≤◌, Bool as Truth, true, false, not, List, [], ◌∷◌, ◌++◌, length, slice_get, Option, Some, None, Result, Ok, Err, refl, sym, ap, ap₂, subst, arith, append_assoc, append-nil}
+use Rattle.std.proofs.Common.{◌≡◌, ◌∙◌, ℕ, suc, ◌+◌, ◌≤◌, Bool as Truth, true, false, List, [], ◌∷◌, ◌++◌, length, slice_get, Option, Some, None, Ok, refl, sym, ap, ap₂, subst, arith, append_assoc}
 use Rattle.std.specs.Prelude.{◌||◌}
 use Rattle.std.proofs.lemmas.List.{length-append}
-use Rattle.std.specs.List.{AllZip}
 use Rattle.index_sorts.specs.Context.{IndexContext}
-use Rattle.xan_lin.specs.Linear.{Linear}
 use Rattle.state_types.specs.PlaceTypes.{type_at}
 use Rattle.state_types.specs.declared.state.StateType.{StateType}
-use Rattle.state_types.specs.declared.types.Ty.{Ty}
 use Rattle.state_types.proofs.Thens.{ok_same}
 use Rattle.operation_rules.specs.Rules as rules
-use Rattle.three_address.specs.Liveness.{Live}
 use Rattle.three_address.specs.Typing.{GoesTo}
 use Rattle.three_address.specs.declared.instruction.LowInstr.{LowInstr}
 use Rattle.three_address.specs.declared.typed.Edge.{Edge}
 use Rattle.lowering.specs.Frames.{Frame}
 use Rattle.lowering.specs.Lowered.{number_of}
-use Rattle.lowering.specs.OneInstruction.{Aim, jump, one_if, jump_if}
-use Rattle.lowering.specs.StatementCode.{first_at, behind_loop, unless, statement_code, statement_labels, block_code, block_labels, block_size}
-use Rattle.lowering.specs.TestCode.{test_size, test_code, test_labels}
+use Rattle.lowering.specs.OneInstruction.{jump, one_if, jump_if}
+use Rattle.lowering.specs.StatementCode.{first_at, behind_loop, unless, statement_code, statement_labels, block_code, block_labels}
+use Rattle.lowering.specs.TestCode.{test_code, test_labels}
 use Rattle.lowering.proofs.CodeSizes.{test_long, block_long, long_jump}
 use Rattle.xanadu_tree.specs.declared.stmt.Clause.{Clause}
-use Rattle.xanadu_tree.specs.BodyRules.{Point, behind_block, completes, completes_all, IsClauseIfAny, IsStatement, AreStatements}
+use Rattle.xanadu_tree.specs.BodyRules.{Point, completes_all, IsClauseIfAny, IsStatement, AreStatements}
 use Rattle.xanadu_tree.specs.KindRules.{Setting, IsTest}
 use Rattle.xanadu_tree.specs.Plain as core
-use Rattle.typed_core.specs.Constructs.{setting_of}
 use Rattle.typed_core.specs.Growth.{Continues, Later}
 use Rattle.typed_core.specs.Joins.{changes_any, names, is_named, stated, Joint, joined, entered, entered_if}
-use Rattle.typed_core.specs.States.{Site, State, point, resuming, noting_state, all_asked, none_asked}
+use Rattle.typed_core.specs.States.{State, point, noting_state, all_asked, none_asked}
 use Rattle.typed_core.specs.Statements as elaborated
 use Rattle.typed_core.specs.Tests.{Sides, tested, on_side}
 use Rattle.typed_core.specs.declared.note.Note.{Note}
@@ -45,23 +40,22 @@ use Rattle.source_safety.proofs.LoopParts.{IsLooping, looping_is}
 use Rattle.type_carrier.specs.CarriedStatements as carried
 use Rattle.type_carrier.specs.CarriedStatements.{way_if, past_way, entered as entered_carried, turned}
 use Rattle.type_carrier.specs.CarriedTests.{Labelled, Sources, state_here, next_state, labelled, test}
-use Rattle.type_carrier.specs.ProvedRows.{behind_front, way, way_in}
+use Rattle.type_carrier.specs.ProvedRows.{behind_front, way_in}
 use Rattle.type_carrier.specs.Ways.{label_state, way_edge}
 use Rattle.carrier_laws.proofs.ChainsTyped.{Done, CodeAt, code_left, code_right}
 use Rattle.carrier_laws.proofs.ConstructsTyped.{earlier}
 use Rattle.carrier_laws.proofs.DemandsProved.{seam}
-use Rattle.carrier_laws.proofs.OperandsRun.{Walk, IsWalk, Ahead, IsLeft, Within, Here, no_code, same_behind}
+use Rattle.carrier_laws.proofs.OperandsRun.{Walk, IsWalk, Ahead, IsLeft, Within, Here, same_behind}
 use Rattle.carrier_laws.proofs.BlocksAsked.{StatementTyped, BlockTyped}
 use Rattle.carrier_laws.proofs.BranchesTyped.{Aims}
 use Rattle.carrier_laws.proofs.FragmentsJoined.{typed_on, passes_on}
-use Rattle.carrier_laws.proofs.FragmentsTyped.{sources_of, HasLabels, Coming, LabelAt, AllAhead, Begins, LabelStands, Passes, GoesOn, Typed}
+use Rattle.carrier_laws.proofs.FragmentsTyped.{sources_of, HasLabels, Coming, LabelAt, AllAhead, Begins, Passes, Typed}
 use Rattle.carrier_laws.proofs.JoinsReach.{IsMeeting, ComesFrom}
 use Rattle.carrier_laws.proofs.JumpsTyped.{jump_live}
 use Rattle.carrier_laws.proofs.KeptJoins.{JoinsWell, joined_kept}
-use Rattle.carrier_laws.proofs.KeptStates.{Kept}
 use Rattle.carrier_laws.proofs.KeptStatements.{Leaves, clause_exists}
 use Rattle.carrier_laws.proofs.LabelsMet.{next_label, label_here}
-use Rattle.carrier_laws.proofs.LabelsTaken.{Left, TakesAll, test_taken}
+use Rattle.carrier_laws.proofs.LabelsTaken.{Left, test_taken}
 use Rattle.carrier_laws.proofs.LeavesTyped.{rows_on}
 use Rattle.carrier_laws.proofs.MeetingsKnown.{meeting_known}
 use Rattle.carrier_laws.proofs.NotesNoted.{joined_noted, SideFacts, sides_facts}

@@ -1,7 +1,7 @@
 -- What a match finds: values for the variables from its first one on, and the rows of each type and of each row.
-use Rattle.std.proofs.Common.{◌≡◌, ◌∙◌, ℕ, zero, suc, ◌+◌, ◌-◌, List, [], ◌∷◌, ◌++◌, length, Bool as Truth, true, false, cond, Option, Some, None, Result, Ok, Err, inl, refl, sym, ap, subst, arith, append_assoc, append-nil}
+use Rattle.std.proofs.Common.{◌≡◌, ◌∙◌, ℕ, zero, suc, ◌+◌, ◌-◌, List, [], ◌∷◌, ◌++◌, length, Bool as Truth, true, false, cond, Option, Some, None, Ok, inl, refl, sym, ap, subst, arith, append_assoc, append-nil}
 use Rattle.std.specs.List.{All, AllByRecursion, AllZip}
-use Rattle.std.proofs.lemmas.List.Elements.{All-nil, All-cons, All-head, All-tail}
+use Rattle.std.proofs.lemmas.List.Elements.{All-nil, All-cons}
 use Rattle.xan_lin.specs.Linear.{Linear, NamesBelow, difference_of}
 use Rattle.xan_lin.specs.Same.{same_form}
 use Rattle.xan_lin.specs.Subst.{subst_of}

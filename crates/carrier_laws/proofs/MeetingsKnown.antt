@@ -1,17 +1,14 @@
 -- What is known at each join of a shaped core: its clause names index variables in scope, so that its rows and types name variables from before
 -- and those of the clause.
-use Rattle.std.proofs.Common.{◌≡◌, ◌∙◌, ℕ, zero, suc, ◌+◌, ◌≤◌, ◌<◌, ◌⊎◌, inl, inr, nat_lt, cond, ℤ, List, [], ◌∷◌, ◌++◌, map, length, Bool as Truth, true, false, Option, Some, None, Result, Ok, Err, refl, sym, ap, subst, arith, append-nil}
+use Rattle.std.proofs.Common.{◌≡◌, ◌∙◌, ℕ, suc, ◌+◌, ◌≤◌, ◌<◌, ◌⊎◌, inl, inr, cond, ℤ, List, [], ◌∷◌, ◌++◌, map, Bool as Truth, Option, Some, None, Result, Ok, Err, refl, sym, ap, subst, arith}
 use Rattle.std.specs.List.{All, AllByRecursion}
 use Rattle.std.proofs.lemmas.List.Elements.{All-head, All-tail}
-use Rattle.xan_lin.specs.Linear.{Linear, IsForm, NamesBelow, variable_form, sized}
+use Rattle.xan_lin.specs.Linear.{Linear, NamesBelow, variable_form}
 use Rattle.xan_lin.specs.Subst.{listed, replacement, subst_of}
 use Rattle.xan_lin.specs.declared.term.LimitKind.TheVariants as limit
-use Rattle.xan_lin.specs.declared.term.Term.{Term}
 use Rattle.xan_lin.specs.declared.term.TooLarge.{TooLarge}
 use Rattle.xan_lin.proofs.FormSizes.{sized-parts}
 use Rattle.xan_lin.proofs.Booleans.{unequal}
-use Rattle.state_types.specs.Answers.{◌>>=◌}
-use Rattle.state_types.specs.PlaceTypes.{type_at}
 use Rattle.state_types.specs.Types.{TypeBelow, subst_ty}
 use Rattle.state_types.specs.declared.types.Ty.{Ty}
 use Rattle.state_types.specs.declared.types.Ty.TheVariants as ty
@@ -24,20 +21,19 @@ use Rattle.xanadu_tree.specs.declared.types.CoreTy.{CoreTy}
 use Rattle.xanadu_tree.specs.declared.types.CoreTy.TheVariants as core_ty
 use Rattle.xanadu_tree.specs.declared.types.Packing.{Packing}
 use Rattle.xanadu_tree.specs.BodyRules.{Point, IsType, IsStated, IsClauseIfAny}
-use Rattle.xanadu_tree.specs.IndexRules.{Stretch, IsWithin, Reaches, IsForm as IsExact, stretch_of}
+use Rattle.xanadu_tree.specs.IndexRules.{Stretch, Reaches, IsForm as IsExact, stretch_of}
 use Rattle.xanadu_tree.specs.KindRules.{Setting}
 use Rattle.typed_core.specs.Forms.{term_of, form_of, type_of, renamed, renamed_type}
 use Rattle.typed_core.specs.Growth.{Continues}
 use Rattle.typed_core.specs.Joins.{stated, leading, Joint, stated_types, joined}
-use Rattle.typed_core.specs.Limits.{Walk, within, needed}
+use Rattle.typed_core.specs.Limits.{within, needed}
 use Rattle.typed_core.specs.States.{Site, State, point, noting_state}
-use Rattle.typed_core.proofs.Continued.{Goes}
 use Rattle.typed_core.proofs.GrownContexts.{RowsBelow}
 use Rattle.typed_core.proofs.KnownTypes.{entry_at}
 use Rattle.typed_core.proofs.NamedStates.{Typed, answered}
-use Rattle.source_safety.proofs.JoinParts.{IsJoined, joined_is}
+use Rattle.source_safety.proofs.JoinParts.{joined_is}
 use Rattle.carrier_laws.proofs.CountedValues.{listed_front, listed_stands, own_stands}
-use Rattle.carrier_laws.proofs.EdgesReach.{IsTypeForm, IsIn, FormIn, TypeIn}
+use Rattle.carrier_laws.proofs.EdgesReach.{IsIn, FormIn, TypeIn}
 use Rattle.carrier_laws.proofs.JoinsReach.{IsMeeting}
 use Rattle.carrier_laws.proofs.KeptJoins.{joined_kept}
 use Rattle.carrier_laws.proofs.KeptStates.{Kept}

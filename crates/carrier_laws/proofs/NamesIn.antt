@@ -1,9 +1,9 @@
 -- Replaced forms name what stands for their variables.
-use Rattle.std.proofs.Common.{◌≡◌, ℕ, zero, suc, ◌<◌, ◌≤◌, ◌==◌, ℤ, pos, negsuc, ◌+ℤ◌, List, [], ◌∷◌, ◌++◌, Bool as Truth, true, false, cond, nat_lt, Option, Some, None, Ok, refl, subst, arith}
-use Rattle.std.specs.List.{All, AllByRecursion}
-use Rattle.std.proofs.lemmas.List.Elements.{All-nil, All-cons, All-head, All-tail}
+use Rattle.std.proofs.Common.{◌≡◌, ℕ, zero, suc, ℤ, pos, negsuc, ◌+ℤ◌, List, [], ◌∷◌, ◌++◌, Bool as Truth, true, false, cond, nat_lt, Ok, subst}
+use Rattle.std.specs.List.{All}
+use Rattle.std.proofs.lemmas.List.Elements.{All-nil, All-cons}
 use Rattle.xan_lin.specs.Linear.{Linear}
-use Rattle.xan_lin.specs.Subst.{replacement, multiple, multiples, replaced_terms, subst_of}
+use Rattle.xan_lin.specs.Subst.{replacement, multiples, replaced_terms, subst_of}
 use Rattle.xan_lin.specs.Terms.{with_multiple, plus_term, sum_terms}
 use Rattle.xan_lin.specs.declared.term.Term.{Term}
 use Rattle.xan_lin.proofs.FormSizes.{sized-parts}

@@ -1,16 +1,14 @@
 -- The index variables of clauses: which have names, and that those in scope are variables so far.
-use Rattle.std.proofs.Common.{◌≡◌, ◌≢◌, ◌∙◌, ℕ, zero, suc, ◌+◌, ◌≤◌, ◌<◌, ◌⊎◌, inl, inr, List, [], ◌∷◌, ◌++◌, length, Bool as Truth, true, false, cond, Option, Some, None, refl, sym, ap, subst, arith, append-nil}
+use Rattle.std.proofs.Common.{◌≡◌, ◌≢◌, ◌∙◌, ℕ, zero, suc, ◌+◌, ◌≤◌, ◌<◌, ◌⊎◌, inl, inr, List, [], ◌∷◌, ◌++◌, Bool as Truth, true, false, cond, Option, Some, None, refl, sym, ap, subst, arith, append-nil}
 use Rattle.std.specs.Prelude.{◌==◌}
 use Rattle.std.specs.List.{AllByRecursion}
 use Rattle.xan_lin.specs.Linear.{Linear, variable_form}
 use Rattle.xan_lin.specs.Subst.{listed}
 use Rattle.xan_lin.proofs.Booleans.{equal, unequal}
 use Rattle.operation_rules.specs.Forms.{variables_from}
-use Rattle.xanadu_tree.specs.BodyRules.{Point, behind_block, stating}
 use Rattle.xanadu_tree.specs.IndexRules.{Stretch, IsWithin, Reaches}
 use Rattle.xanadu_tree.specs.declared.stmt.Clause.{Clause}
 use Rattle.typed_core.specs.Growth.{Continues}
-use Rattle.typed_core.specs.States.{State}
 use Rattle.carrier_laws.proofs.CountedValues.{listed_front}
 
 -- names are those of index variables of clauses so far, behind those of the function

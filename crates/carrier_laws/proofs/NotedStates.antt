@@ -1,22 +1,14 @@
 -- Each state that elaboration notes is that of a label: its rows state themselves, it names only what is there, and its types exist.
-use Rattle.std.proofs.Common.{◌≡◌, ◌∙◌, ℕ, zero, suc, ◌+◌, ◌≤◌, List, [], ◌∷◌, ◌++◌, length, slice_get, Bool as Truth, true, false, Option, Some, None, Result, Ok, Err, inl, inr, refl, sym, ap, subst, arith}
-use Rattle.std.specs.Prelude.{◌||◌}
-use Rattle.std.specs.List.{All, AllByRecursion, list_all}
+use Rattle.std.proofs.Common.{◌≡◌, ℕ, ◌≤◌, List, [], ◌∷◌, Bool as Truth, Option, Some, inl, inr, sym, subst}
+use Rattle.std.specs.List.{All, AllByRecursion}
 use Rattle.std.proofs.lemmas.List.Elements.{All-nil, All-cons, All-head, All-tail}
-use Rattle.index_sorts.specs.Context.{IndexContext, NamesBelow}
-use Rattle.xan_lin.specs.Linear.{Linear}
-use Rattle.xan_lin.specs.Subst.{zero_form}
-use Rattle.state_types.specs.PlaceTypes.{type_at}
 use Rattle.state_types.specs.Types.{TypeBelow}
 use Rattle.state_types.specs.declared.closed.Packed.{Packed}
 use Rattle.state_types.specs.declared.closed.Signature.{Signature}
 use Rattle.state_types.specs.declared.state.StateType.{StateType}
 use Rattle.state_types.specs.declared.types.Ty.{Ty}
-use Rattle.three_address.specs.LiveLabels.{live_mark}
-use Rattle.three_address.specs.Typing.{IsLabel, TypeExists, state_of}
+use Rattle.three_address.specs.Typing.{IsLabel, TypeExists}
 use Rattle.typed_core.specs.States.{Site, State, point}
-use Rattle.typed_core.specs.declared.note.Note.{Note}
-use Rattle.typed_core.specs.declared.note.Note.TheVariants as note
 use Rattle.typed_core.proofs.GrownContexts.{RowsBelow}
 use Rattle.type_carrier.specs.Ways.{label_state}
 use Rattle.carrier_laws.proofs.LivePlaces.{live_of, live_places_are, live_all}

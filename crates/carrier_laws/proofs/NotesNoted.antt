@@ -1,12 +1,11 @@
 -- All states that elaboration notes along a body of a shaped core are those of labels.
-use Rattle.std.proofs.Common.{◌≡◌, ◌∙◌, ℕ, zero, suc, ◌+◌, ◌≤◌, List, [], ◌∷◌, ◌++◌, map, length, Bool as Truth, true, false, Option, Some, None, Result, Ok, Err, refl, sym, ap, subst, arith}
+use Rattle.std.proofs.Common.{◌≡◌, ◌∙◌, ℕ, suc, ◌+◌, ◌≤◌, List, [], ◌∷◌, ◌++◌, map, length, Bool as Truth, true, false, Option, Some, None, Result, Ok, Err, refl, sym, ap, subst, arith}
 use Rattle.std.specs.Prelude.{◌||◌}
-use Rattle.std.specs.List.{All, AllByRecursion, list_all}
+use Rattle.std.specs.List.{AllByRecursion, list_all}
 use Rattle.xan_lin.specs.Linear.{Linear}
 use Rattle.xan_lin.specs.Subst.{zero_form}
 use Rattle.xan_lin.specs.declared.term.LimitKind.TheVariants as limit
 use Rattle.xan_lin.specs.declared.term.TooLarge.{TooLarge}
-use Rattle.state_types.specs.Answers.{◌>>=◌}
 use Rattle.state_types.specs.PlaceTypes.{type_at}
 use Rattle.state_types.specs.declared.state.StateType.{StateType}
 use Rattle.state_types.specs.declared.types.Ty.{Ty}
@@ -20,13 +19,13 @@ use Rattle.operation_rules.specs.Sides.{side}
 use Rattle.operation_rules.specs.declared.operation.Operation.{Operation}
 use Rattle.operation_rules.specs.declared.operation.Operation.TheVariants as operation
 use Rattle.xanadu_tree.specs.declared.stmt.Clause.{Clause}
-use Rattle.xanadu_tree.specs.BodyRules.{Point, behind_block, completes, completes_all, MayFollow, IsStatement, AreStatements, IsClauseIfAny}
+use Rattle.xanadu_tree.specs.BodyRules.{Point, behind_block, completes, completes_all, MayFollow, IsStatement, AreStatements}
 use Rattle.xanadu_tree.specs.KindRules.{Setting}
 use Rattle.xanadu_tree.specs.Plain as core
 use Rattle.typed_core.specs.Constructs.{setting_of, followed, asking, types_by, first_type, type_by, state_by}
 use Rattle.typed_core.specs.Forms.{renamed}
 use Rattle.typed_core.specs.Joins.{changes_any, stated, few_places, renewed, renewing, naming_more, stating, stated_types, with_types, Joint, joined, within_bounds, values_at, met_there, entered, entered_if}
-use Rattle.typed_core.specs.Limits.{Walk, within, by_rule, held}
+use Rattle.typed_core.specs.Limits.{within, by_rule, held}
 use Rattle.typed_core.specs.Operands.{operand, operands, chained}
 use Rattle.typed_core.specs.Operators.{operation_of, demands_at, comparison_of, in_order}
 use Rattle.typed_core.specs.States.{Site, State, point, resuming, with_fresh, assuming, all_asked, none_asked, demanding, noting_state, there, as_tuple, like, given}
@@ -41,12 +40,12 @@ use Rattle.typed_core.proofs.GrownJoins.{entered_goes, entered_if_goes}
 use Rattle.typed_core.proofs.GrownTests.{tested_goes}
 use Rattle.typed_core.proofs.LimitedAnswers.{Answers, then_answers, weaker, any_answer}
 use Rattle.typed_core.proofs.NamedOperands.{tested_stays}
-use Rattle.typed_core.proofs.NamedStates.{Typed, typed_on, answered, known_answer, both_answers}
-use Rattle.source_safety.proofs.BranchParts.{IsBranching, branching_is}
-use Rattle.source_safety.proofs.LoopParts.{IsLooping, looping_is}
-use Rattle.carrier_laws.proofs.KeptStates.{Kept, tested_kept, side_kept}
+use Rattle.typed_core.proofs.NamedStates.{typed_on, answered, both_answers}
+use Rattle.source_safety.proofs.BranchParts.{branching_is}
+use Rattle.source_safety.proofs.LoopParts.{looping_is}
+use Rattle.carrier_laws.proofs.KeptStates.{tested_kept, side_kept}
 use Rattle.carrier_laws.proofs.NotedStates.{IsNoted, noted_by_facts}
-use Rattle.carrier_laws.proofs.PlacesKept.{Grounds, Facts, Place, facts_of, true_place, statement_place, other_place, begun_place, block_place}
+use Rattle.carrier_laws.proofs.PlacesKept.{Grounds, Facts, Place, facts_of, true_place, statement_place, other_place, begun_place}
 
 -- the notes are well
 abbrev pub IsWell : Site → Note → Type 0

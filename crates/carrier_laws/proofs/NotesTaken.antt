@@ -1,5 +1,5 @@
 -- The carrier takes from the front the notes that elaboration made, apart from what the code is.
-use Rattle.std.proofs.Common.{◌≡◌, ◌∙◌, ℕ, zero, suc, ◌+◌, Bool as Truth, true, false, List, [], ◌∷◌, ◌++◌, Option, Some, None, refl, sym, ap, append_assoc, append-nil}
+use Rattle.std.proofs.Common.{◌≡◌, ◌∙◌, ℕ, List, [], ◌∷◌, ◌++◌, Option, Some, None, refl, sym, ap, append_assoc, append-nil}
 use Rattle.std.specs.List.{list_all}
 use Rattle.operation_rules.specs.Rules.{rule}
 use Rattle.operation_rules.specs.declared.operation.Operation.{Operation}

@@ -1,11 +1,10 @@
 -- Operands in a list, and the operators of a chain.
-use Rattle.std.proofs.Common.{◌≡◌, ◌≢◌, ◌∙◌, ℕ, zero, suc, ◌+◌, ◌<◌, ◌≤◌, List, [], ◌∷◌, ◌++◌, length, slice_get, Option, Some, None, Result, Ok, Err, refl, sym, ap, subst, arith, append_assoc, append-nil}
+use Rattle.std.proofs.Common.{◌≡◌, ◌∙◌, ℕ, suc, ◌+◌, List, [], ◌∷◌, ◌++◌, length, Some, None, Ok, refl, sym, ap, subst, arith, append_assoc, append-nil}
 use Rattle.std.specs.Prelude.{pos}
 use Rattle.std.proofs.lemmas.List.{length-append}
 use Rattle.std.proofs.lemmas.Option.{slice_get_within}
 use Rattle.std.specs.List.{AllZip}
 use Rattle.operation_rules.specs.Applied.{named}
-use Rattle.operation_rules.specs.declared.operation.Operation.{Operation}
 use Rattle.operation_rules.specs.declared.operation.Operation.TheVariants as operation
 use Rattle.state_types.specs.declared.state.StateType.{StateType}
 use Rattle.state_types.specs.declared.types.Ty.{Ty}
@@ -16,7 +15,7 @@ use Rattle.state_types.proofs.Thens.{then_ok, ok_same}
 use Rattle.three_address.specs.declared.instruction.LowInstr.{LowInstr}
 use Rattle.lowering.specs.Frames.{temporary, operand_place}
 use Rattle.lowering.specs.OneInstruction.{literal, binary, op_of, called, tuple_made}
-use Rattle.lowering.specs.ValueCode.{value_code, operand_at, operands_code, operand_places, links_code, result_place}
+use Rattle.lowering.specs.ValueCode.{value_code, operand_at, operands_code, operand_places, links_code}
 use Rattle.xanadu_tree.specs.declared.expr.Op.{Op}
 use Rattle.xanadu_tree.specs.declared.expr.Op.TheVariants as op
 use Rattle.xanadu_tree.specs.KindRules.{IsSomeLink}
@@ -26,7 +25,7 @@ use Rattle.typed_core.specs.Growth.{Continues}
 use Rattle.typed_core.specs.Operands.{operand, operands, chained}
 use Rattle.typed_core.specs.Operators.{operation_of, demands_at}
 use Rattle.typed_core.specs.Places.{behind, is_put, next_to}
-use Rattle.typed_core.specs.States.{Site, State}
+use Rattle.typed_core.specs.States.{State}
 use Rattle.typed_core.proofs.Continued.{one_more, more_again}
 use Rattle.typed_core.proofs.GrownContexts.{Onward}
 use Rattle.typed_core.proofs.GrownOperands.{operands_go, chained_goes}
@@ -40,7 +39,7 @@ use Rattle.carrier_laws.proofs.OperationFacts.{literal_quiet, add_quiet, sub_qui
 use Rattle.carrier_laws.proofs.OperationsTyped.{promised}
 use Rattle.carrier_laws.proofs.ValuesPlaced.{Where, InTemporary, Came}
 use Rattle.carrier_laws.proofs.OperandsRun.{Walk, IsWalk, Ahead, Here, Runs, Waits, Valued, runs_on, waits_more, fewer_wait}
-use Rattle.carrier_laws.proofs.OperandsTyped.{Keeps, ValueTyped, OperandTyped, OperandWaits, put_behind}
+use Rattle.carrier_laws.proofs.OperandsTyped.{Keeps, ValueTyped, OperandTyped, put_behind}
 use Rattle.carrier_laws.proofs.ConstructsTyped.{earlier, before_construct, nothing_waits, waits_on, quiet_construct, quiet_follows, noted_construct}
 
 -- ---- operands in order

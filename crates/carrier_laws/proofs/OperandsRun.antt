@@ -1,32 +1,28 @@
 -- Operands one after the other: the code so far runs, its demands are proved, and each operand is where it waits.
-use Rattle.std.proofs.Common.{◌≡◌, ◌≢◌, ◌∙◌, false, ℕ, zero, suc, ◌+◌, ◌<◌, ◌≤◌, List, [], ◌∷◌, ◌++◌, length, slice_get, Option, Some, None, Result, Ok, Err, refl, sym, ap, subst, arith, append_assoc, append-nil}
+use Rattle.std.proofs.Common.{◌≡◌, ◌∙◌, false, ℕ, suc, ◌+◌, ◌<◌, ◌≤◌, List, [], ◌∷◌, ◌++◌, length, slice_get, Option, Some, None, Ok, refl, sym, ap, subst, arith, append_assoc, append-nil}
 use Rattle.std.proofs.lemmas.List.{length-append}
-use Rattle.std.specs.List.{AllZip}
-use Rattle.operation_rules.specs.Rules.{Setting, rule}
+use Rattle.operation_rules.specs.Rules.{rule}
 use Rattle.operation_rules.specs.declared.operation.Operation.{Operation}
 use Rattle.operation_rules.specs.declared.rule.Rule.{Rule}
 use Rattle.state_types.specs.PlaceTypes.{type_at}
 use Rattle.state_types.specs.declared.state.StateType.{StateType}
 use Rattle.state_types.specs.declared.types.Ty.{Ty}
-use Rattle.three_address.specs.Demands.{demands_of, AreProved, AllProved}
+use Rattle.three_address.specs.Demands.{demands_of, AreProved}
 use Rattle.three_address.specs.declared.instruction.LowInstr.{LowInstr}
 use Rattle.three_address.specs.declared.typed.Edge.{Edge}
-use Rattle.lowering.specs.Frames.{temporary, operand_place}
 use Rattle.lowering.specs.Lowered.{leads}
 use Rattle.index_sorts.specs.Context.{IndexContext}
 use Rattle.three_address.specs.Typing.{Allows}
-use Rattle.typed_core.specs.Constructs.{setting_of, type_by}
+use Rattle.typed_core.specs.Constructs.{setting_of}
 use Rattle.typed_core.specs.Growth.{Continues}
 use Rattle.typed_core.specs.Proving.{ProveAll}
-use Rattle.typed_core.specs.States.{Site, State, all_asked, none_asked}
+use Rattle.typed_core.specs.States.{Site, State}
 use Rattle.typed_core.specs.declared.note.Note.{Note}
-use Rattle.typed_core.specs.declared.note.Note.TheVariants as note
-use Rattle.type_carrier.specs.CarriedValues.{Carried, plainly, demanded}
-use Rattle.type_carrier.specs.ProvedRows.{Proofs, plain, demand_edge, demand_in, behind_front, rows_onto}
-use Rattle.carrier_laws.proofs.ChainsTyped.{Body, Chain, Done, Next, chain_on, CodeAt, code_left, code_right, get_left, placed}
-use Rattle.carrier_laws.proofs.DemandsProved.{demand_proved}
+use Rattle.type_carrier.specs.CarriedValues.{Carried}
+use Rattle.type_carrier.specs.ProvedRows.{Proofs}
+use Rattle.carrier_laws.proofs.ChainsTyped.{Body, Chain, Done, Next, chain_on, get_left, placed}
 use Rattle.carrier_laws.proofs.OperationsTyped.{Follows, follows_types, follows_few}
-use Rattle.carrier_laws.proofs.ValuesPlaced.{Now, Temporaries, Where, InTemporary, InVariable, Came, GoesNext, Written, Operates, one_written}
+use Rattle.carrier_laws.proofs.ValuesPlaced.{Now, Temporaries, Where, InTemporary, InVariable, Came, Operates, one_written}
 
 -- what stands throughout the walk over a function
 pub record Walk : Type 0 where

@@ -1,5 +1,5 @@
 -- An operand is where it waits: a variable in its own place, any other in the temporary of its depth.
-use Rattle.std.proofs.Common.{◌≡◌, ◌≢◌, ◌∙◌, ℕ, zero, suc, ◌+◌, ◌<◌, ◌≤◌, List, [], ◌∷◌, ◌++◌, length, slice_get, Option, Some, None, Result, Ok, Err, refl, sym, ap, subst, arith, append_assoc, append-nil}
+use Rattle.std.proofs.Common.{◌≡◌, ◌≢◌, ◌∙◌, ℕ, zero, suc, ◌+◌, List, [], ◌∷◌, ◌++◌, length, slice_get, Option, Some, None, Ok, refl, sym, ap, subst, arith}
 use Rattle.std.proofs.lemmas.List.{length-append}
 use Rattle.std.proofs.lemmas.Option.{slice_get_within}
 use Rattle.state_types.specs.Answers.{◌>>=◌}
@@ -7,24 +7,21 @@ use Rattle.state_types.specs.PlaceTypes.{type_at}
 use Rattle.state_types.specs.declared.state.StateType.{StateType}
 use Rattle.state_types.specs.declared.types.Ty.{Ty}
 use Rattle.state_types.proofs.Thens.{then_ok, ok_same}
-use Rattle.three_address.specs.Liveness.{Live}
 use Rattle.three_address.specs.declared.instruction.LowInstr.{LowInstr}
 use Rattle.lowering.specs.Frames.{temporary, operand_place}
 use Rattle.lowering.specs.ValueCode.{value_code, operand_code, operand_at}
 use Rattle.xanadu_tree.specs.Plain as core
-use Rattle.typed_core.specs.Growth.{Continues}
 use Rattle.typed_core.specs.Limits.{Walk as Limited}
 use Rattle.typed_core.specs.Operands.{operand}
 use Rattle.typed_core.specs.Places.{behind}
-use Rattle.typed_core.specs.States.{Site, State, there}
-use Rattle.typed_core.specs.declared.note.Note.{Note}
+use Rattle.typed_core.specs.States.{State, there}
 use Rattle.typed_core.proofs.Continued.{no_more, one_more}
 use Rattle.type_carrier.specs.CarriedValues.{Carried, value, operand_carried}
 use Rattle.type_carrier.specs.CarriedValues as carried
 use Rattle.carrier_laws.proofs.ChainsTyped.{CodeAt}
 use Rattle.carrier_laws.proofs.DemandsProved.{seam}
-use Rattle.carrier_laws.proofs.ValuesPlaced.{Now, Temporaries, Where, InTemporary, InVariable, Came}
-use Rattle.carrier_laws.proofs.OperandsRun.{Walk, IsWalk, Ahead, IsLeft, Within, Here, Runs, no_code, Waits, Valued}
+use Rattle.carrier_laws.proofs.ValuesPlaced.{Temporaries, Where, InTemporary, InVariable}
+use Rattle.carrier_laws.proofs.OperandsRun.{Walk, Ahead, Here, no_code, Waits, Valued}
 
 -- no temporary that waits is this place
 abbrev pub Keeps : (vars : ℕ) → List Ty → (to : ℕ) → Type 0

@@ -1,5 +1,5 @@
 -- Which operations demand nothing, and that what an operation names is there where its rule answers.
-use Rattle.std.proofs.Common.{◌≡◌, ◌∙◌, ℕ, List, [], ◌∷◌, Option, Some, None, Result, Ok, Err, slice_get, refl, sym, ap}
+use Rattle.std.proofs.Common.{◌≡◌, ◌∙◌, ℕ, List, [], Option, Some, None, Result, Ok, Err, slice_get, refl, sym, ap}
 use Rattle.std.specs.Prelude.{ℤ, Bool}
 use Rattle.xan_lin.specs.Linear.{Linear, sized, sum_of, difference_of, product_of}
 use Rattle.xan_lin.specs.declared.term.TooLarge.{TooLarge}
@@ -7,7 +7,7 @@ use Rattle.operation_rules.specs.Applied.{named}
 use Rattle.operation_rules.specs.Faults.{Ruling, or_fault}
 use Rattle.operation_rules.specs.declared.error.Fault.TheVariants.{NoTarget}
 use Rattle.operation_rules.specs.Forms.{number_of}
-use Rattle.operation_rules.specs.Rules.{Setting, rule, gives_number, product, no_types, one_type, two_numbers, as_array, measured, called, constructed, allocated, matching, matching_packed, tuple_at, cell_at, two_types, as_number}
+use Rattle.operation_rules.specs.Rules.{Setting, rule, gives_number, product, no_types, one_type, two_numbers, as_array, measured, called, constructed, allocated, tuple_at, cell_at}
 use Rattle.operation_rules.specs.declared.operation.Operation.{Operation}
 use Rattle.operation_rules.specs.declared.operation.Operation.TheVariants as operation
 use Rattle.operation_rules.specs.declared.rule.Rule.{Rule}

@@ -1,5 +1,5 @@
 -- An operation behind its operands: one that demands nothing, and one whose goals stand in the note in front.
-use Rattle.std.proofs.Common.{◌≡◌, ◌∙◌, ℕ, List, [], ◌∷◌, ◌++◌, Option, Some, None, Result, Ok, Err, refl, sym, ap, subst, append_assoc}
+use Rattle.std.proofs.Common.{◌≡◌, ◌∙◌, ℕ, List, [], ◌∷◌, ◌++◌, Some, None, Ok, refl, sym, ap, subst, append_assoc}
 use Rattle.index_sorts.specs.Context.{IndexContext}
 use Rattle.operation_rules.specs.Rules.{rule}
 use Rattle.operation_rules.specs.declared.operation.Operation.{Operation}
@@ -8,19 +8,18 @@ use Rattle.state_types.specs.declared.state.StateType.{StateType}
 use Rattle.state_types.specs.declared.types.Ty.{Ty}
 use Rattle.three_address.specs.Demands.{demands_of, AreProved, AllProved}
 use Rattle.three_address.specs.declared.instruction.LowInstr.{LowInstr}
-use Rattle.typed_core.specs.Constructs.{setting_of, type_by}
-use Rattle.typed_core.specs.Growth.{Continues}
-use Rattle.typed_core.specs.States.{Site, State, all_asked, none_asked, demanding}
+use Rattle.typed_core.specs.Constructs.{setting_of}
+use Rattle.typed_core.specs.States.{State, all_asked, none_asked, demanding}
 use Rattle.typed_core.specs.declared.note.Note.{Note}
 use Rattle.typed_core.specs.declared.note.Note.TheVariants as note
 use Rattle.type_carrier.specs.CarriedValues.{Carried, plainly, demanded}
-use Rattle.type_carrier.specs.ProvedRows.{plain, demand_edge, demand_in, behind_front, rows_onto}
+use Rattle.type_carrier.specs.ProvedRows.{plain, demand_edge, rows_onto}
 use Rattle.carrier_laws.proofs.ChainsTyped.{placed}
 use Rattle.carrier_laws.proofs.DemandsProved.{demand_proved}
 use Rattle.carrier_laws.proofs.OperationFacts.{Quiet}
 use Rattle.carrier_laws.proofs.OperationsTyped.{Follows}
 use Rattle.carrier_laws.proofs.ValuesPlaced.{Operates}
-use Rattle.carrier_laws.proofs.OperandsRun.{Walk, IsWalk, Ahead, IsLeft, Valued, Waits, behind_operands, same_behind}
+use Rattle.carrier_laws.proofs.OperandsRun.{Walk, IsWalk, Ahead, Valued, Waits, behind_operands, same_behind}
 
 module _ (w : Walk) (isw : IsWalk w) (p q : ℕ) (s : StateType) (code : List LowInstr) (c d : Carried) (st mid : State) (ts us : List Ty)
     (waits : Waits w p q s code c d st mid ts us) (instr : LowInstr) (o : Operation) (to : ℕ) (reads : List ℕ) (types : List Ty)

@@ -1,11 +1,10 @@
 -- An operation that goes on, where its operands have their types: its rule is what elaboration followed.
-use Rattle.std.proofs.Common.{◌≡◌, ◌∙◌, ℕ, zero, suc, ◌+◌, ◌<◌, ◌≤◌, Bool, true, false, cond, List, [], ◌∷◌, ◌++◌, length, map, slice_get, Option, Some, None, Result, Ok, Err, refl, sym, ap, subst, arith}
+use Rattle.std.proofs.Common.{◌≡◌, ◌∙◌, ℕ, ◌+◌, ◌<◌, ◌≤◌, Bool, true, false, cond, List, [], map, Option, Some, None, Result, Ok, Err, refl, sym, ap, subst, arith}
 use Rattle.std.specs.List.{All, list_all}
 use Rattle.std.specs.Prelude.{nat_lt}
 use Rattle.index_sorts.specs.Context.{IndexContext, with_variables}
 use Rattle.index_sorts.specs.declared.error.ContextError.{ContextError}
 use Rattle.index_sorts.specs.declared.error.ContextError.TheVariants as context_error
-use Rattle.xan_lin.specs.Linear.{Linear}
 use Rattle.operation_rules.specs.Applied.{Ruled, named, all_there, all_assuming, all_given, widened, applied, ruled}
 use Rattle.operation_rules.specs.Faults.{Ruling, filled, needed}
 use Rattle.operation_rules.specs.Rules.{Setting, rule}

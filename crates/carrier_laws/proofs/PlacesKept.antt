@@ -1,45 +1,32 @@
 -- All that is known at a place of an elaborated body of a shaped core, and at the places within its branches and loops.
-use Rattle.std.proofs.Common.{◌≡◌, ◌∙◌, ℕ, ◌+◌, ◌≤◌, List, [], ◌∷◌, ◌++◌, Bool as Truth, true, false, Option, Some, None, Result, Ok, Err, refl, sym, ap, subst, arith}
-use Rattle.std.specs.List.{All, AllByRecursion}
-use Rattle.xan_lin.specs.Linear.{Linear, NamesBelow}
-use Rattle.state_types.specs.PlaceTypes.{type_at}
+use Rattle.std.proofs.Common.{◌≡◌, ℕ, Bool as Truth, true, Option, Ok, sym, subst, arith}
+use Rattle.std.specs.List.{All}
 use Rattle.state_types.specs.Tables.{IsClosed}
-use Rattle.state_types.specs.Types.{same_kind, TypeBelow}
-use Rattle.state_types.specs.declared.state.StateType.{StateType}
 use Rattle.state_types.specs.declared.types.Ty.{Ty}
-use Rattle.state_types.proofs.Edges.{type_at-all}
 use Rattle.xanadu_tree.specs.declared.stmt.Clause.{Clause}
 use Rattle.xanadu_tree.specs.BodyRules.{Point, behind_block, completes, completes_all, IsClauseIfAny, IsStatement, AreStatements}
 use Rattle.xanadu_tree.specs.KindRules.{Setting}
 use Rattle.xanadu_tree.specs.Plain as core
-use Rattle.typed_core.specs.Growth.{Continues, Later}
-use Rattle.typed_core.specs.Joins.{changes_any, stated, Joint, joined, entered}
+use Rattle.typed_core.specs.Joins.{stated, Joint, joined, entered}
 use Rattle.typed_core.specs.Operands.{operand}
 use Rattle.typed_core.specs.States.{Site, State, point, noting_state}
 use Rattle.typed_core.specs.Statements.{statement, block, other_branch}
 use Rattle.typed_core.specs.Tests.{Sides, tested, on_side}
 use Rattle.typed_core.proofs.Continued.{no_more, more_again}
-use Rattle.typed_core.proofs.FitJoins.{joined_fits, clause_stated}
 use Rattle.typed_core.proofs.FitOperands.{Suits}
 use Rattle.typed_core.proofs.GrownContexts.{RowsBelow, rows_more}
-use Rattle.typed_core.proofs.GrownJoins.{joined_goes, entered_goes}
+use Rattle.typed_core.proofs.GrownJoins.{joined_goes}
 use Rattle.typed_core.proofs.GrownOperands.{operand_goes}
 use Rattle.typed_core.proofs.GrownStatements.{statement_goes, block_goes}
 use Rattle.typed_core.proofs.GrownTests.{tested_goes}
-use Rattle.typed_core.proofs.KnownTypes.{IsEntry, Knows, AreWithin, entry_at, present_of}
 use Rattle.typed_core.proofs.NamedOperands.{operand_stays}
 use Rattle.typed_core.proofs.NamedStates.{Typed, typed_on, answered}
 use Rattle.typed_core.proofs.NamedStatements.{typed_of}
-use Rattle.typed_core.proofs.TypeKinds.{ty_kind, like_kinds}
 use Rattle.source_safety.proofs.PlacesKnown.{IsAt, statement_at, block_at, side_at, other_at, begun_at}
-use Rattle.carrier_laws.proofs.EdgesReach.{IsTypeForm}
-use Rattle.carrier_laws.proofs.JoinsReach.{ComesFrom}
 use Rattle.carrier_laws.proofs.KeptJoins.{joined_kept, entered_kept}
 use Rattle.carrier_laws.proofs.KeptStates.{Kept, operand_kept, tested_kept}
 use Rattle.carrier_laws.proofs.KeptStatements.{Known, Leaves, Ground, clause_exists, join_leaves, side_known, other_known, statement_leaves, block_leaves}
 use Rattle.carrier_laws.proofs.NamesKept.{Keys, InScope}
-use Rattle.carrier_laws.proofs.RulesKept.{IsGood}
-use Rattle.carrier_laws.proofs.RowsStand.{AreSound}
 
 -- what stands throughout a body
 pub record Grounds (set : Setting) (site : Site) : Type 0 where

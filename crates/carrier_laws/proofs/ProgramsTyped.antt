@@ -1,14 +1,10 @@
 -- A program is typed where its functions are.
-use Rattle.std.proofs.Common.{◌≡◌, ◌∙◌, ℕ, zero, suc, ◌+◌, ◌<◌, ◌≤◌, List, [], ◌∷◌, ◌++◌, length, map, slice_get, Option, Some, None, Result, Ok, refl, sym, ap, subst, arith}
+use Rattle.std.proofs.Common.{◌≡◌, ◌∙◌, ℕ, zero, suc, ◌+◌, List, [], ◌∷◌, ◌++◌, length, map, slice_get, Some, Ok, refl, sym, ap, subst, arith}
 use Rattle.std.proofs.lemmas.List.{length-append}
-use Rattle.std.proofs.lemmas.Option.{slice_get_within}
-use Rattle.std.specs.List.{All, AllZip, Contains}
-use Rattle.state_types.specs.Answers.{◌>>=◌}
+use Rattle.std.specs.List.{AllZip}
 use Rattle.state_types.specs.declared.closed.Signature.{Signature}
-use Rattle.state_types.specs.declared.state.StateType.{StateType}
 use Rattle.state_types.proofs.Thens.{then_ok, ok_same}
 use Rattle.lowering.specs.Lowered.{functions_of, function_of}
-use Rattle.three_address.specs.LiveLabels.{AreAllColumns}
 use Rattle.three_address.specs.declared.function.LowFun.{LowFun}
 use Rattle.xanadu_tree.specs.Plain as core
 use Rattle.typed_core.specs.Headers.{signature, signatures}

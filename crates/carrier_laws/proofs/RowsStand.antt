@@ -1,9 +1,9 @@
 -- Rows of a context state themselves: added in order to no rows, each is one more.
-use Rattle.std.proofs.Common.{◌≡◌, ◌∙◌, ℕ, zero, suc, ◌+◌, ◌<◌, ◌≤◌, nat_lt, cond, List, [], ◌∷◌, ◌++◌, map, length, Bool as Truth, true, false, Option, Some, None, Result, Ok, Err, refl, sym, ap, subst, arith, append_assoc, append-nil, length-append}
+use Rattle.std.proofs.Common.{◌≡◌, ◌∙◌, ℕ, ◌<◌, ◌≤◌, cond, List, [], ◌∷◌, ◌++◌, map, length, Bool as Truth, true, false, Result, Ok, Err, refl, ap, arith, length-append}
 use Rattle.std.specs.Prelude.{nat_le}
 use Rattle.std.specs.List.{AllByRecursion}
 use Rattle.std.proofs.lemmas.Bool.Decides.{nat_tests}
-use Rattle.index_sorts.specs.Context.{IndexContext, new_context}
+use Rattle.index_sorts.specs.Context.{IndexContext}
 use Rattle.index_sorts.specs.Known.{knows, with_row}
 use Rattle.index_sorts.specs.declared.error.ContextError.{ContextError}
 use Rattle.index_sorts.specs.declared.error.ContextError.TheVariants as context_error
@@ -12,7 +12,6 @@ use Rattle.xan_lin.specs.declared.term.TooLarge.{TooLarge}
 use Rattle.xan_lin.proofs.Booleans.{not_less}
 use Rattle.state_types.specs.Answers.{◌>>=◌}
 use Rattle.state_types.specs.Unpacking.{with_rows}
-use Rattle.state_types.proofs.Thens.{then_ok, ok_same}
 use Rattle.operation_rules.specs.Applied as rules
 use Rattle.operation_rules.specs.Applied.{all_assuming}
 use Rattle.three_address.specs.Typing.{stated}

@@ -1,16 +1,16 @@
 -- Rules make forms of forms, and types that exist: what they take to hold is a form where it is within the bounds, and so is the index of what
 -- they give.
-use Rattle.std.proofs.Common.{◌≡◌, ◌∙◌, ℕ, zero, suc, ◌+◌, ◌≤◌, ◌<◌, nat_lt, cond, ℤ, pos, negsuc, ◌+ℤ◌, ◌*ℤ◌, List, [], ◌∷◌, ◌++◌, map, length, slice_get, Bool as Truth, true, false, Option, Some, None, Result, Ok, Err, refl, sym, ap, subst, arith}
-use Rattle.std.specs.Prelude.{IsTrue, not, ◌&&◌}
-use Rattle.std.specs.List.{AllByRecursion, list_all}
+use Rattle.std.proofs.Common.{◌≡◌, ◌∙◌, ℕ, zero, suc, ◌+◌, ◌≤◌, ◌<◌, nat_lt, cond, ℤ, pos, negsuc, List, [], ◌∷◌, ◌++◌, map, length, slice_get, Bool as Truth, true, false, Option, Some, None, Result, Ok, Err, refl, sym, ap, subst, arith}
+use Rattle.std.specs.Prelude.{IsTrue, ◌&&◌}
+use Rattle.std.specs.List.{AllByRecursion}
 use Rattle.std.proofs.lemmas.Option.{slice_get_within}
 use Rattle.xan_lin.specs.Linear.{Linear, IsForm, all_within, is_within, are_within, sized, variable_form, sum_of, difference_of, product_of, excess_of}
 use Rattle.xan_lin.specs.Subst.{subst_of}
-use Rattle.xan_lin.specs.Terms.{IsRising, plus_term, sum_terms, negated_terms, scaled_terms}
+use Rattle.xan_lin.specs.Terms.{IsRising, sum_terms, negated_terms, scaled_terms}
 use Rattle.xan_lin.specs.declared.term.Term.{Term}
 use Rattle.xan_lin.specs.declared.term.TooLarge.{TooLarge}
 use Rattle.xan_lin.specs.declared.term.TooLarge.TheVariants.{Terms, Magnitude}
-use Rattle.xan_lin.proofs.Booleans.{both, both_true, is_not_less}
+use Rattle.xan_lin.proofs.Booleans.{both, is_not_less}
 use Rattle.xan_lin.proofs.GatheredTerms.{IsRising-gathered}
 use Rattle.xan_lin.proofs.ScaledTerms.{IsRising-scaled}
 use Rattle.xan_lin.proofs.TermSums.{IsRising-negated, IsRising-plus}
@@ -18,7 +18,6 @@ use Rattle.state_types.specs.Types.{subst_ty}
 use Rattle.state_types.specs.Unpacking.{shifted_term, shifted, shifted_type}
 use Rattle.state_types.specs.declared.closed.Packed.{Packed}
 use Rattle.state_types.specs.declared.closed.Signature.{Signature}
-use Rattle.state_types.specs.declared.matching.Found.{Found}
 use Rattle.state_types.specs.declared.types.Ty.{Ty}
 use Rattle.state_types.specs.declared.types.Ty.TheVariants as ty
 use Rattle.state_types.specs.Answers.{◌>>=◌}
@@ -30,9 +29,9 @@ use Rattle.operation_rules.specs.Forms.{constant_form, number_of, multiple_form,
 use Rattle.operation_rules.specs.declared.operation.Operation.{Operation}
 use Rattle.operation_rules.specs.declared.operation.Operation.TheVariants as operation
 use Rattle.operation_rules.specs.Rules.{Setting, gives_number, product, no_types, one_type, two_types, three_types, as_number, as_truth, as_array, as_tuple, two_numbers, tuple_at, cell_with, cell_at, as_many, matching, of_kinds, matching_packed, quotient, remainder, measured, loaded, stored, allocated, constructed, split, called, returned, rule}
-use Rattle.operation_rules.specs.Sides.{less, at_most, equal, side_of, side}
+use Rattle.operation_rules.specs.Sides.{less, at_most, side_of, side}
 use Rattle.operation_rules.proofs.RuleFacts.{or_fault_ok}
-use Rattle.operation_rules.proofs.WordsRead.{one_type_is, two_types_is, three_types_is, two_numbers_is, as_number_is, as_array_is}
+use Rattle.operation_rules.proofs.WordsRead.{one_type_is, two_types_is, two_numbers_is, as_number_is, as_array_is}
 use Rattle.three_address.specs.Typing.{TypeExists}
 use Rattle.carrier_laws.proofs.EdgesReach.{IsTypeForm}
 

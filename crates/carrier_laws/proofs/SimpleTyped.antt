@@ -1,26 +1,25 @@
 -- Statements that print, store and return are typed.
-use Rattle.std.proofs.Common.{◌≡◌, ◌∙◌, ℕ, zero, suc, ◌+◌, ◌<◌, ◌≤◌, List, [], ◌∷◌, ◌++◌, length, map, slice_get, Option, Some, None, Result, Ok, Err, refl, sym, ap, subst, arith, append_assoc}
+use Rattle.std.proofs.Common.{◌≡◌, ◌∙◌, ℕ, suc, ◌+◌, ◌<◌, ◌≤◌, List, [], ◌∷◌, ◌++◌, length, map, slice_get, Option, Some, None, Ok, refl, sym, ap, subst, arith, append_assoc}
 use Rattle.std.specs.Prelude.{pos}
 use Rattle.std.specs.List.{All, AllZip, Contains}
 use Rattle.std.proofs.lemmas.List.{length-append}
 use Rattle.index_sorts.specs.Context.{IndexContext}
 use Rattle.xan_lin.specs.Subst.{zero_form}
-use Rattle.operation_rules.specs.Applied.{Ruled, named, all_there}
+use Rattle.operation_rules.specs.Applied.{named, all_there}
 use Rattle.operation_rules.specs.Rules.{Setting, rule, gives, one_type, as_number}
 use Rattle.operation_rules.specs.declared.operation.Operation.{Operation}
 use Rattle.operation_rules.specs.declared.operation.Operation.TheVariants as operation
 use Rattle.operation_rules.specs.declared.rule.Rule.{Rule}
-use Rattle.state_types.specs.Answers.{◌>>=◌}
 use Rattle.state_types.specs.PlaceTypes.{type_at}
 use Rattle.state_types.specs.declared.state.StateType.{StateType}
 use Rattle.state_types.specs.declared.types.Ty.{Ty}
 use Rattle.state_types.specs.declared.types.Ty.TheVariants as ty
 use Rattle.state_types.proofs.Thens.{then_ok, ok_same}
 use Rattle.three_address.specs.Demands.{demands_of, AreProved, AllProved}
-use Rattle.three_address.specs.Flow.{ways, ways_of, ways_from, label_at, target_of}
+use Rattle.three_address.specs.Flow.{ways_of, ways_from, label_at, target_of}
 use Rattle.three_address.specs.Instructions.{Instruction, instruction_of}
 use Rattle.three_address.specs.Liveness.{Live, Read, Kept}
-use Rattle.three_address.specs.Typing.{Allows, GoesBack, ruled_in, state_of, with_types}
+use Rattle.three_address.specs.Typing.{Allows, ruled_in, state_of, with_types}
 use Rattle.three_address.specs.declared.instruction.LowInstr.{LowInstr}
 use Rattle.three_address.specs.declared.typed.Edge.{Edge}
 use Rattle.lowering.specs.Frames.{temporary, operand_place}
@@ -31,7 +30,7 @@ use Rattle.xanadu_tree.specs.Plain as core
 use Rattle.typed_core.specs.Constructs.{setting_of, followed, types_by, state_by}
 use Rattle.typed_core.specs.Operands.{operand}
 use Rattle.typed_core.specs.Places.{behind}
-use Rattle.typed_core.specs.States.{Site, State, all_asked, none_asked, demanding}
+use Rattle.typed_core.specs.States.{State, all_asked, none_asked, demanding}
 use Rattle.typed_core.specs.Statements.{store, returning}
 use Rattle.typed_core.specs.Statements as statements
 use Rattle.typed_core.specs.declared.note.Note.{Note}
@@ -39,20 +38,19 @@ use Rattle.typed_core.specs.declared.note.Note.TheVariants as note
 use Rattle.type_carrier.specs.CarriedValues.{Carried, plainly, demanded}
 use Rattle.type_carrier.specs.CarriedValues as carried
 use Rattle.type_carrier.specs.CarriedStatements as carried_statements
-use Rattle.type_carrier.specs.ProvedRows.{plain, demand_edge, demand_in, behind_front, rows_onto}
+use Rattle.type_carrier.specs.ProvedRows.{plain, demand_edge, rows_onto}
 use Rattle.carrier_laws.proofs.AssignmentsTyped.{Stepped}
-use Rattle.carrier_laws.proofs.ChainsTyped.{Body, Chain, Done, Next, CodeAt, Stands, placed, code_left, code_right, found, reads_are, writes_are}
+use Rattle.carrier_laws.proofs.ChainsTyped.{Done, Next, CodeAt, Stands, placed, code_left, code_right, found, reads_are, writes_are}
 use Rattle.carrier_laws.proofs.ConstructsTyped.{earlier, before_operand, nothing_waits, quiet_follows, two_wait, waits_on}
 use Rattle.carrier_laws.proofs.DemandsProved.{demand_proved, seam}
 use Rattle.carrier_laws.proofs.GivenFollowed.{zero_given}
 use Rattle.carrier_laws.proofs.InstructionsFound.{literal_is}
-use Rattle.carrier_laws.proofs.OperandsRun.{Walk, IsWalk, Ahead, Here, IsLeft, Runs, Waits, Within, runs_on, waits_more, same_behind}
+use Rattle.carrier_laws.proofs.OperandsRun.{Walk, IsWalk, Ahead, Here, IsLeft, Runs, Waits, runs_on, waits_more, same_behind}
 use Rattle.carrier_laws.proofs.OperandsTyped.{OperandTyped, put_behind}
 use Rattle.carrier_laws.proofs.OperationFacts.{literal_quiet}
-use Rattle.carrier_laws.proofs.OperationsTyped.{Follows, types_followed, follows_types, follows_few, promised, ruled_is, Uses, goes_on}
-use Rattle.carrier_laws.proofs.ValuesPlaced.{Now, Where, InTemporary, GoesNext, read_all}
+use Rattle.carrier_laws.proofs.OperationsTyped.{Follows, types_followed, follows_types, follows_few, promised, ruled_is, goes_on}
+use Rattle.carrier_laws.proofs.ValuesPlaced.{Where, InTemporary, GoesNext, read_all}
 use Rattle.typed_core.proofs.GrownContexts.{Onward, state_by_goes}
-use Rattle.typed_core.specs.Growth.{Continues}
 
 -- ---- what follows of a rule, where it gives nothing
 

@@ -1,10 +1,10 @@
 -- A tuple that is split is typed: its parts come to variables.
-use Rattle.std.proofs.Common.{◌≡◌, ◌≢◌, ◌∙◌, ℕ, zero, suc, ◌+◌, ◌-◌, ◌<◌, ◌≤◌, ◌==◌, cond, Bool as Truth, true, false, List, [], ◌∷◌, ◌++◌, length, map, slice_get, get_or, Option, Some, None, Result, Ok, Err, refl, sym, ap, subst, arith, append_assoc, append-nil}
+use Rattle.std.proofs.Common.{◌≡◌, ◌≢◌, ◌∙◌, ℕ, zero, suc, ◌+◌, ◌-◌, ◌<◌, ◌≤◌, ◌==◌, cond, Bool as Truth, true, false, List, [], ◌∷◌, ◌++◌, length, map, slice_get, Option, Some, None, Ok, Err, refl, sym, ap, subst, arith}
 use Rattle.std.specs.List.{All, AllZip, Contains, range_with_len}
 use Rattle.std.proofs.lemmas.Bool.Decides.{Decides-eqb}
 use Rattle.std.proofs.lemmas.List.{length-append}
 use Rattle.std.proofs.lemmas.List.Elements.{All-nil, All-cons, All-head, All-tail}
-use Rattle.std.proofs.lemmas.Option.{same_Some, slice_get_within}
+use Rattle.std.proofs.lemmas.Option.{slice_get_within}
 use Rattle.xan_seq.proofs.RisingKeys.{value-with}
 use Rattle.index_sorts.specs.Context.{IndexContext}
 use Rattle.xan_lin.specs.declared.term.LimitKind.TheVariants as limit
@@ -34,7 +34,7 @@ use Rattle.xanadu_tree.specs.KindRules.{kind_of}
 use Rattle.typed_core.specs.Constructs.{setting_of, followed}
 use Rattle.state_types.specs.Types.{same_kind}
 use Rattle.typed_core.specs.Limits.{within, Misfit, Walk as Limited}
-use Rattle.typed_core.specs.States.{Site, State, like, given}
+use Rattle.typed_core.specs.States.{State, like, given}
 use Rattle.typed_core.specs.Statements.{all_given}
 use Rattle.lowering.specs.OneInstruction.{parted}
 use Rattle.type_carrier.specs.CarriedValues.{Carried, plainly}

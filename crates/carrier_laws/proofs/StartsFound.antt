@@ -1,13 +1,12 @@
 -- Where the body of a function begins: what elaboration knows there, and the first state type of the code.
-use Rattle.std.proofs.Common.{◌≡◌, ◌∙◌, ℕ, zero, suc, ◌+◌, ◌≤◌, ◌<◌, ◌⊎◌, inl, inr, List, [], ◌∷◌, ◌++◌, map, length, slice_get, Bool as Truth, true, false, cond, Option, Some, None, Result, Ok, Err, refl, sym, ap, subst, arith}
+use Rattle.std.proofs.Common.{◌≡◌, ◌∙◌, ℕ, suc, ◌+◌, ◌≤◌, ◌<◌, inl, inr, List, [], ◌∷◌, map, length, cond, Option, Some, Result, Ok, Err, refl, sym, ap, subst, arith}
 use Rattle.std.specs.List.{AllByRecursion, list_all, enumerate_from}
-use Rattle.index_sorts.specs.Context.{IndexContext, new_context}
+use Rattle.index_sorts.specs.Context.{IndexContext}
 use Rattle.index_sorts.specs.Known.{with_row}
 use Rattle.index_sorts.specs.declared.error.ContextError.{ContextError}
 use Rattle.index_sorts.specs.declared.error.ContextError.TheVariants as context_error
 use Rattle.xan_lin.specs.Linear.{Linear}
 use Rattle.xan_lin.specs.declared.term.LimitKind.TheVariants as limit
-use Rattle.xan_lin.specs.declared.term.TooLarge.{TooLarge}
 use Rattle.xan_lin.proofs.Booleans.{not_less}
 use Rattle.xan_seq.specs.Rising.{KeysRise}
 use Rattle.state_types.specs.Answers.{◌>>=◌}
@@ -20,22 +19,21 @@ use Rattle.state_types.proofs.Thens.{then_ok, ok_same}
 use Rattle.operation_rules.specs.Applied.{all_assuming}
 use Rattle.three_address.specs.Typing.{stated, numbered, Starts, state_of}
 use Rattle.xanadu_tree.specs.BodyRules.{Point}
-use Rattle.xanadu_tree.specs.IndexRules.{Stretch, Reaches}
+use Rattle.xanadu_tree.specs.IndexRules.{Reaches}
 use Rattle.xanadu_tree.specs.KindRules.{Setting}
 use Rattle.typed_core.specs.declared.goal.GoalAt.{GoalAt}
 use Rattle.typed_core.specs.declared.note.Note.{Note}
 use Rattle.typed_core.specs.Goals.{body_start}
 use Rattle.typed_core.specs.Limits.{within, in_context, held}
-use Rattle.typed_core.specs.States.{Site, State, point}
+use Rattle.typed_core.specs.States.{Site, State}
 use Rattle.typed_core.specs.Strays.{form_below}
 use Rattle.typed_core.proofs.NamedStates.{answered}
 use Rattle.typed_core.proofs.RowsSoFar.{start_named}
 use Rattle.source_safety.proofs.PlacesKnown.{IsAt}
 use Rattle.carrier_laws.proofs.KeptStates.{Kept}
-use Rattle.carrier_laws.proofs.KeptStatements.{Known}
-use Rattle.carrier_laws.proofs.NamesKept.{Keys, InScope}
+use Rattle.carrier_laws.proofs.NamesKept.{Keys}
 use Rattle.carrier_laws.proofs.PlacesKept.{Place}
-use Rattle.carrier_laws.proofs.RowsStand.{AreSound, Behind, none_sound, with_rows_stand}
+use Rattle.carrier_laws.proofs.RowsStand.{Behind, none_sound, with_rows_stand}
 use Rattle.carrier_laws.proofs.RulesKept.{IsGood, IsGoodSignature}
 
 -- ---- rows added in order

@@ -1,16 +1,14 @@
 -- The same of statements: notes of states and of ways where control meets, and those of what stands between.
-use Rattle.std.proofs.Common.{◌≡◌, ◌∙◌, ℕ, zero, suc, ◌+◌, Bool as Truth, true, false, not, ◌&&◌, ◌||◌, List, [], ◌∷◌, ◌++◌, length, map, Option, Some, None, Result, refl, sym, ap, subst, arith, append_assoc, append-nil}
+use Rattle.std.proofs.Common.{◌≡◌, ◌∙◌, ℕ, suc, ◌+◌, Bool as Truth, true, false, ◌&&◌, ◌||◌, List, [], ◌∷◌, ◌++◌, length, map, Option, Some, None, Result, refl, sym, ap, subst, arith, append_assoc, append-nil}
 use Rattle.std.specs.List.{list_all}
 use Rattle.std.proofs.lemmas.List.{length-append}
-use Rattle.lowering.specs.OneInstruction.{one_if, label_if}
+use Rattle.lowering.specs.OneInstruction.{label_if}
 use Rattle.lowering.specs.StatementCode.{statement_labels, block_labels, statement_size, first_at, second_at, meet_at, behind_loop, meet, is_stated}
-use Rattle.lowering.specs.TestCode.{test_labels, parts_labels, past_parts, inner_on, turn, test_size}
+use Rattle.lowering.specs.TestCode.{test_labels}
 use Rattle.operation_rules.specs.Applied.{all_assuming, widened}
 use Rattle.operation_rules.specs.Forms.{variables_from}
 use Rattle.operation_rules.specs.Faults.{filled}
-use Rattle.operation_rules.specs.Sides.{side}
-use Rattle.operation_rules.specs.declared.operation.Operation.{Operation}
-use Rattle.operation_rules.specs.declared.operation.Operation.TheVariants.{Branch, BranchTruth, Untuple, Store, Print, Return}
+use Rattle.operation_rules.specs.declared.operation.Operation.TheVariants.{Untuple, Store, Print, Return}
 use Rattle.state_types.specs.declared.state.StateType.{StateType}
 use Rattle.state_types.specs.declared.types.Ty.{Ty}
 use Rattle.state_types.specs.declared.types.Ty.TheVariants as ty
@@ -22,18 +20,16 @@ use Rattle.xanadu_tree.specs.Plain as core
 use Rattle.typed_core.specs.Constructs.{types_by, state_by}
 use Rattle.typed_core.specs.Joins.{Joint, changes_any, stated, joined, entered, entered_if, renewing, stating, stated_types, with_types, few_places, renewed, naming_more, met_there, within_bounds, values_at}
 use Rattle.typed_core.specs.Forms.{renamed}
-use Rattle.typed_core.specs.Limits.{Walk, by_rule, within, held}
+use Rattle.typed_core.specs.Limits.{by_rule, within, held}
 use Rattle.typed_core.specs.Strays.{values_rise, clause_rises, row_below}
 use Rattle.xan_lin.specs.declared.term.LimitKind.TheVariants as limit
 use Rattle.xan_lin.specs.declared.term.TooLarge.{TooLarge}
 use Rattle.state_types.specs.PlaceTypes.{type_at}
 use Rattle.typed_core.specs.Operands.{operand}
-use Rattle.typed_core.specs.Operators.{comparison_of, in_order}
 use Rattle.typed_core.specs.Statements.{assigned, all_given, split, store, done, printed, returning, Branches, meeting, after_branches, other_branch}
 use Rattle.typed_core.specs.Statements as elaborated
 use Rattle.typed_core.specs.States.{Site, State, given, as_tuple, noting_state, point, resuming, with_fresh, assuming, like}
-use Rattle.typed_core.specs.Tests.{Sides, branched, truth_leaf, on_side, tested, all_true, all_false}
-use Rattle.typed_core.specs.Tests as elaborated_tests
+use Rattle.typed_core.specs.Tests.{on_side, tested}
 use Rattle.typed_core.specs.declared.note.Note.{Note}
 use Rattle.typed_core.specs.declared.note.Note.TheVariants as note
 use Rattle.typed_core.proofs.Continued.{Goes, more_again}
@@ -41,13 +37,13 @@ use Rattle.typed_core.proofs.Continued as continued
 use Rattle.typed_core.proofs.LimitedAnswers.{then_answers, weaker, any_answer}
 use Rattle.type_carrier.specs.CarriedValues.{Carried, plainly, demanded, value}
 use Rattle.type_carrier.specs.CarriedValues as carried
-use Rattle.type_carrier.specs.CarriedTests.{Labelled, Sources, state_here, next_state, labelled, labelled_if, past_note, jump_plainly, leaf, test, parts_carried}
+use Rattle.type_carrier.specs.CarriedTests.{Labelled, Sources, state_here, labelled, past_note, test}
 use Rattle.type_carrier.specs.CarriedStatements.{statement, block, way_if, past_way, in_front, branches_meet, second_begins, turned, returned}
 use Rattle.type_carrier.specs.CarriedStatements as statements
-use Rattle.type_carrier.specs.ProvedRows.{Proofs, behind_front, plain}
+use Rattle.type_carrier.specs.ProvedRows.{behind_front, plain}
 use Rattle.three_address.specs.declared.typed.Edge.{Edge}
 use Rattle.carrier_laws.proofs.LabelsTaken.{TakesAll, Left, in_now, all_on, all_as, all_now, all_none, label_left, label_taken, past_taken, test_taken}
-use Rattle.carrier_laws.proofs.NotesTaken.{Takes, takes_none, takes_on, takes_as, at_note, state_taken, types_taken, operand_taken, value_taken}
+use Rattle.carrier_laws.proofs.NotesTaken.{Takes, takes_on, takes_as, at_note, state_taken, types_taken, operand_taken, value_taken}
 module _ (site : Site) (from : Sources) where
   -- ---- statements without blocks
 

@@ -1,7 +1,7 @@
 -- Statements without blocks are typed, each as what is asked of statements.
-use Rattle.std.proofs.Common.{◌≡◌, ◌∙◌, ℕ, zero, suc, ◌+◌, ◌<◌, ◌≤◌, Bool as Truth, true, false, List, [], ◌∷◌, ◌++◌, length, slice_get, Option, Some, None, Result, Ok, Err, refl, sym, ap, subst, arith, append-nil}
-use Rattle.std.specs.List.{All, AllZip, range_with_len}
-use Rattle.std.proofs.lemmas.Option.{same_Some, slice_get_within}
+use Rattle.std.proofs.Common.{◌≡◌, ◌∙◌, ℕ, ◌<◌, Bool as Truth, true, false, List, [], ◌∷◌, ◌++◌, length, Option, Some, None, Ok, refl, sym, subst, arith, append-nil}
+use Rattle.std.specs.List.{All}
+use Rattle.std.proofs.lemmas.Option.{slice_get_within}
 use Rattle.operation_rules.specs.declared.operation.Operation.TheVariants as operation
 use Rattle.state_types.specs.declared.state.StateType.{StateType}
 use Rattle.state_types.specs.declared.types.Ty.{Ty}
@@ -13,7 +13,7 @@ use Rattle.lowering.specs.Frames.{Frame, temporary, tuple_number, operand_place}
 use Rattle.lowering.specs.OneInstruction.{parted, printed}
 use Rattle.lowering.specs.StatementCode.{statement_code, statement_labels, store_code, return_code}
 use Rattle.lowering.specs.ValueCode.{value_code, operand_at}
-use Rattle.xanadu_tree.specs.BodyRules.{Point, completes, IsStatement}
+use Rattle.xanadu_tree.specs.BodyRules.{Point, IsStatement}
 use Rattle.xanadu_tree.specs.declared.types.Kind.TheVariants as kind
 use Rattle.xanadu_tree.specs.KindRules.{Setting, HasKind}
 use Rattle.xanadu_tree.specs.Plain as core
@@ -22,9 +22,8 @@ use Rattle.typed_core.specs.Operands.{operand}
 use Rattle.typed_core.specs.States.{State, as_tuple}
 use Rattle.typed_core.specs.Statements as elaborated
 use Rattle.typed_core.specs.Statements.{split, all_given}
-use Rattle.typed_core.proofs.Continued.{no_more}
 use Rattle.typed_core.proofs.FitOperands.{operand_fits}
-use Rattle.typed_core.proofs.GrownContexts.{Onward, types_by_goes}
+use Rattle.typed_core.proofs.GrownContexts.{types_by_goes}
 use Rattle.typed_core.proofs.NamedStates.{answered}
 use Rattle.typed_core.proofs.TypeKinds.{ty_kind}
 use Rattle.type_carrier.specs.CarriedStatements as carried
@@ -35,11 +34,11 @@ use Rattle.carrier_laws.proofs.AssignmentsTyped.{Stepped, set_typed, done_typed}
 use Rattle.carrier_laws.proofs.ChainsTyped.{CodeAt, code_left}
 use Rattle.carrier_laws.proofs.ConstructsTyped.{earlier}
 use Rattle.carrier_laws.proofs.ExpressionsTyped.{value_typed, operand_typed}
-use Rattle.carrier_laws.proofs.OperandsRun.{Walk, IsWalk, Ahead, Here}
+use Rattle.carrier_laws.proofs.OperandsRun.{Walk, IsWalk, Ahead}
 use Rattle.carrier_laws.proofs.OperationsTyped.{types_followed}
-use Rattle.carrier_laws.proofs.BlocksAsked.{StatementTyped, BlockTyped}
-use Rattle.carrier_laws.proofs.FragmentsTyped.{sources_of, HasLabels, AllAhead, Begins, Typed}
-use Rattle.carrier_laws.proofs.PlacesKept.{Grounds, Place}
+use Rattle.carrier_laws.proofs.BlocksAsked.{StatementTyped}
+use Rattle.carrier_laws.proofs.FragmentsTyped.{Begins, Typed}
+use Rattle.carrier_laws.proofs.PlacesKept.{Grounds}
 use Rattle.carrier_laws.proofs.SimpleTyped.{Returned, print_typed, store_typed, value_returned, nothing_returned}
 use Rattle.carrier_laws.proofs.SplitsTyped.{all_given_are, range_differs, kinds_within, parts_typed}
 

@@ -1,5 +1,5 @@
 -- The code of tests is typed: at each jump to the aim the rows of that side hold, and behind the test those of the other.
-use Rattle.std.proofs.Common.{◌≡◌, ◌∙◌, ℕ, zero, suc, ◌+◌, ◌<◌, ◌≤◌, Bool as Truth, true, false, not, List, [], ◌∷◌, ◌++◌, length, slice_get, Option, Some, None, Result, Ok, Err, refl, sym, ap, subst, arith, append_assoc, append-nil}
+use Rattle.std.proofs.Common.{◌≡◌, ◌∙◌, ℕ, suc, ◌+◌, ◌<◌, ◌≤◌, Bool as Truth, true, false, not, List, [], ◌∷◌, ◌++◌, length, slice_get, Some, Ok, refl, sym, ap, subst, arith, append_assoc, append-nil}
 use Rattle.std.specs.Prelude.{option_to_list}
 use Rattle.std.specs.List.{AllZip}
 use Rattle.std.proofs.lemmas.List.{length-append}
@@ -12,22 +12,21 @@ use Rattle.three_address.specs.Typing.{GoesTo}
 use Rattle.three_address.specs.declared.instruction.LowInstr.{LowInstr}
 use Rattle.three_address.specs.declared.typed.Edge.{Edge}
 use Rattle.lowering.specs.Lowered.{number_of}
-use Rattle.lowering.specs.OneInstruction.{Aim, jump, jump_if, one_if, label_if}
-use Rattle.lowering.specs.TestCode.{turned, inner_aim, inner_on, past_parts, turn, test_size, parts_size, test_code, parts_code, test_labels, parts_labels}
+use Rattle.lowering.specs.OneInstruction.{Aim, jump}
+use Rattle.lowering.specs.TestCode.{turned, past_parts, test_size, parts_size, test_code, parts_code, test_labels, parts_labels}
 use Rattle.lowering.proofs.CodeSizes.{test_long, parts_long}
 use Rattle.xanadu_tree.specs.KindRules.{Setting as KindSetting, IsTest, AreTests, AreSeveral}
 use Rattle.xanadu_tree.specs.Plain as core
 use Rattle.typed_core.specs.Growth.{Continues, Later, SidesGrown}
 use Rattle.typed_core.specs.Limits.{Walk as Limited}
-use Rattle.typed_core.specs.States.{Site, State, point, noting_state}
+use Rattle.typed_core.specs.States.{Site, State, noting_state}
 use Rattle.typed_core.specs.Tests.{Sides, on_side, tested, all_true, all_false}
 use Rattle.typed_core.specs.declared.note.Note.{Note}
 use Rattle.typed_core.specs.declared.note.Note.TheVariants as note
 use Rattle.typed_core.proofs.Continued.{Goes, no_more, one_more, some_more, more_again, later_here, later_on}
 use Rattle.typed_core.proofs.GrownTests.{Parts, tested_goes}
 use Rattle.typed_core.proofs.LimitedAnswers.{then_answers, weaker}
-use Rattle.type_carrier.specs.CarriedTests.{Labelled, Sources, state_here, next_state, labelled, labelled_if, past_note, jump_plainly, test, parts_carried}
-use Rattle.type_carrier.specs.CarriedTests as carried
+use Rattle.type_carrier.specs.CarriedTests.{Labelled, Sources, next_state, labelled, past_note, jump_plainly, test, parts_carried}
 use Rattle.type_carrier.specs.ProvedRows.{plain, behind_front}
 use Rattle.index_sorts.specs.Context.{IndexContext}
 use Rattle.state_types.specs.PlaceTypes.{type_at}
@@ -35,11 +34,11 @@ use Rattle.type_carrier.specs.Ways.{label_state}
 use Rattle.carrier_laws.proofs.ChainsTyped.{CodeAt, code_left, code_right, Next, Done}
 use Rattle.carrier_laws.proofs.ConstructsTyped.{earlier}
 use Rattle.carrier_laws.proofs.DemandsProved.{seam}
-use Rattle.carrier_laws.proofs.OperandsRun.{Walk, IsWalk, Ahead, Here, IsLeft, same_behind, get_more}
+use Rattle.carrier_laws.proofs.OperandsRun.{Walk, IsWalk, Ahead, Here, IsLeft, same_behind}
 use Rattle.carrier_laws.proofs.OperationsTyped.{promised}
-use Rattle.carrier_laws.proofs.BranchesTyped.{Aims, Branched}
+use Rattle.carrier_laws.proofs.BranchesTyped.{Aims}
 use Rattle.carrier_laws.proofs.FragmentsJoined.{typed_on, passes_on}
-use Rattle.carrier_laws.proofs.FragmentsTyped.{sources_of, HasLabels, Coming, LabelAt, AllAhead, Begins, LabelStands, Passes, GoesOn, Typed}
+use Rattle.carrier_laws.proofs.FragmentsTyped.{sources_of, HasLabels, Coming, AllAhead, Begins, LabelStands, Passes, Typed}
 use Rattle.carrier_laws.proofs.JumpsTyped.{jump_allows, jump_live}
 use Rattle.carrier_laws.proofs.LabelsMet.{Formed, next_label, plain_jump, label_here}
 use Rattle.carrier_laws.proofs.LabelsTaken.{Left, TakesAll, test_taken, all_taken, any_taken}

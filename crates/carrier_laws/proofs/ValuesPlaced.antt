@@ -1,9 +1,8 @@
 -- What the state type of code has in common with the state of elaboration at the same point, and an operation that writes one place.
 --
 -- Both have the same context. A live variable has the same type in both; what waits is in temporaries, in order.
-use Rattle.std.proofs.Common.{◌≡◌, ◌≢◌, ◌∙◌, ℕ, zero, suc, ◌+◌, ◌<◌, ◌==◌, Bool as Truth, true, false, cond, List, [], ◌∷◌, ◌++◌, length, map, slice_get, Option, Some, None, Result, Ok, Err, refl, sym, ap, subst, arith, inl, inr, ◌⊎◌}
+use Rattle.std.proofs.Common.{◌≡◌, ◌≢◌, ◌∙◌, ℕ, zero, suc, ◌+◌, ◌<◌, cond, List, [], ◌∷◌, map, slice_get, Option, Some, None, Ok, refl, sym, ap, subst, arith}
 use Rattle.std.specs.List.{All, AllZip, Contains}
-use Rattle.std.proofs.lemmas.Bool.Decides.{nat_tests}
 use Rattle.index_sorts.specs.Context.{IndexContext}
 use Rattle.operation_rules.specs.Applied.{named, all_there}
 use Rattle.operation_rules.specs.Faults.{Ruling}
@@ -17,7 +16,7 @@ use Rattle.state_types.proofs.Thens.{then_ok, ok_same}
 use Rattle.xan_seq.proofs.RisingKeys.{value-with}
 use Rattle.xan_seq.proofs.NumberTests.{unequal, equal}
 use Rattle.three_address.specs.Demands.{demands_of, AreProved}
-use Rattle.three_address.specs.Flow.{ways, ways_of, ways_from, label_at, target_of, reads_at, writes_at}
+use Rattle.three_address.specs.Flow.{ways, ways_of, ways_from, label_at, target_of}
 use Rattle.three_address.specs.Instructions.{Instruction, instruction_of}
 use Rattle.three_address.specs.Liveness.{Live, Read, Kept}
 use Rattle.three_address.specs.Typing.{Allows, GoesOn, Leads, state_of, with_types}
@@ -27,9 +26,8 @@ use Rattle.operation_rules.specs.Applied.{Ruled}
 use Rattle.state_types.specs.Answers.{◌>>=◌}
 use Rattle.typed_core.specs.Constructs.{setting_of, followed, asking, types_by, type_by, first_type}
 use Rattle.typed_core.specs.States.{Site, State, in_ctx, demanding}
-use Rattle.typed_core.proofs.GrownContexts.{asking_ctx}
 use Rattle.carrier_laws.proofs.ChainsTyped.{Body, Stands, reads_are, writes_are, found}
-use Rattle.carrier_laws.proofs.OperationsTyped.{Follows, types_followed, Uses, goes_on}
+use Rattle.carrier_laws.proofs.OperationsTyped.{Follows, types_followed, goes_on}
 
 -- ---- both states
 

@@ -1,5 +1,5 @@
 -- The types at the end of a block of the variables that were visible before it.
-use Rattle.std.proofs.Common.{◌≡◌, ◌∙◌, ℕ, suc, ◌==◌, Bool as Truth, true, false, cond, List, [], ◌∷◌, Option, Some, None, refl, sym, ap, subst}
+use Rattle.std.proofs.Common.{◌≡◌, ◌∙◌, ℕ, suc, ◌==◌, Bool as Truth, true, false, cond, List, [], ◌∷◌, Option, Some, refl, sym, ap}
 use Rattle.std.proofs.lemmas.Bool.Decides.{Decides-eqb}
 use Rattle.state_types.specs.PlaceTypes.{type_at}
 use Rattle.state_types.specs.declared.types.Ty.{Ty}

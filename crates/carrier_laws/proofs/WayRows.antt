@@ -1,5 +1,5 @@
 -- What a way demands is known, or proved by the lines of a goal that elaboration asked for there.
-use Rattle.std.proofs.Common.{◌≡◌, ◌∙◌, ℕ, zero, suc, List, [], ◌∷◌, ◌++◌, length, map, slice_get, Bool as Truth, true, false, ◌⊎◌, inl, inr, Option, Some, None, refl, sym, ap, subst, append_assoc, append-nil}
+use Rattle.std.proofs.Common.{◌≡◌, ◌∙◌, ℕ, List, [], ◌∷◌, ◌++◌, length, slice_get, Bool as Truth, true, false, ◌⊎◌, inl, inr, Option, Some, refl, sym, ap, subst, append_assoc, append-nil}
 use Rattle.std.specs.List.{AllByRecursion}
 use Rattle.index_sorts.specs.Context.{IndexContext}
 use Rattle.index_sorts.specs.Known.{knows}
@@ -7,7 +7,7 @@ use Rattle.proof_lines.specs.Lines.{LinesProve}
 use Rattle.xan_lin.specs.Linear.{Linear}
 use Rattle.xan_lin.specs.Same.{same_form}
 use Rattle.xan_lin.proofs.EqualForms.{Decides-same_form}
-use Rattle.three_address.specs.Demands.{Demand, demands_of, Proves, AreProved, AllProved, IsKnown, HasLines}
+use Rattle.three_address.specs.Demands.{Demand, demands_of, AreProved, AllProved, IsKnown, HasLines}
 use Rattle.three_address.specs.declared.typed.ProvedRow.{ProvedRow}
 use Rattle.typed_core.specs.Growth.{Continues}
 use Rattle.typed_core.specs.Proving.{ProveAll}

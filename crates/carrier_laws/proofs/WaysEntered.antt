@@ -1,7 +1,7 @@
 -- What a way into a join is made of, and what its values are.
-use Rattle.std.proofs.Common.{◌≡◌, ◌∙◌, ℕ, zero, suc, ◌+◌, List, [], ◌∷◌, ◌++◌, map, length, slice_get, Bool as Truth, true, false, cond, ◌⊎◌, inl, inr, Option, Some, None, Result, Ok, refl, sym, ap, subst, arith, append_assoc, append-nil}
+use Rattle.std.proofs.Common.{◌≡◌, ◌∙◌, ℕ, suc, ◌+◌, List, [], ◌∷◌, ◌++◌, map, length, Bool as Truth, true, false, Option, Some, None, Ok, refl, sym, ap, subst, append_assoc, append-nil}
 use Rattle.std.specs.Prelude.{◌==◌, ◌||◌}
-use Rattle.std.specs.List.{AllZip, AllByRecursion}
+use Rattle.std.specs.List.{AllZip}
 use Rattle.std.proofs.lemmas.Bool.Decides.{Decides-eqb}
 use Rattle.xan_lin.specs.Linear.{Linear}
 use Rattle.xan_lin.specs.declared.term.LimitKind.TheVariants as limit
@@ -17,11 +17,11 @@ use Rattle.operation_rules.proofs.BlocksFound.{matching_is}
 use Rattle.xanadu_tree.specs.declared.types.CoreTy.{CoreTy}
 use Rattle.typed_core.specs.Forms.{renamed_type}
 use Rattle.typed_core.specs.Joins.{is_named, Joint, stated_types, present, within_bounds, index_at, values_at, met_there, entered}
-use Rattle.typed_core.specs.Limits.{Walk, within, needed, by_rule}
-use Rattle.typed_core.specs.States.{Site, State, Asked, all_asked, none_asked, noting, there, matching}
+use Rattle.typed_core.specs.Limits.{within, needed}
+use Rattle.typed_core.specs.States.{Site, State, all_asked, none_asked, noting, there, matching}
 use Rattle.typed_core.specs.declared.note.Note.TheVariants as note
 use Rattle.source_safety.proofs.Demanded.{by_rule_ok}
-use Rattle.source_safety.proofs.JoinTypes.{Presents, presents_are, HasIndex}
+use Rattle.source_safety.proofs.JoinTypes.{presents_are, HasIndex}
 use Rattle.type_carrier.specs.Ways.{first_type, present_at}
 use Rattle.carrier_laws.proofs.CountedValues.{Counted}
 use Rattle.carrier_laws.proofs.MatchedRows.{IsMatch, match_is}

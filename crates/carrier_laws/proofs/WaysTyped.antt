@@ -1,13 +1,11 @@
 -- The jumps by which branches and bodies come to a join are typed, by what is known at a place.
-use Rattle.std.proofs.Common.{◌≡◌, ◌∙◌, ℕ, zero, suc, ◌+◌, ◌<◌, ◌≤◌, nat_lt, List, [], ◌∷◌, ◌++◌, Bool as Truth, true, false, Option, Some, None, Result, Ok, Err, refl, sym, ap, subst, arith}
+use Rattle.std.proofs.Common.{◌≡◌, ℕ, suc, ◌<◌, ◌≤◌, List, [], ◌∷◌, Bool as Truth, true, false, Some, refl, arith}
 use Rattle.std.specs.List.{All, AllByRecursion}
 use Rattle.std.proofs.lemmas.List.Elements.{All-nil, All-cons, All-head, All-tail}
-use Rattle.index_sorts.specs.Context.{IndexContext}
 use Rattle.xan_lin.specs.Linear.{Linear, IsForm, NamesBelow}
-use Rattle.xan_lin.specs.Subst.{replacement, subst_of}
 use Rattle.xan_lin.specs.declared.term.Term.{Term}
 use Rattle.state_types.specs.PlaceTypes.{type_at}
-use Rattle.state_types.specs.Types.{index_of, same_kind, TypeBelow}
+use Rattle.state_types.specs.Types.{index_of, TypeBelow}
 use Rattle.state_types.specs.declared.state.StateType.{StateType}
 use Rattle.state_types.specs.declared.types.Ty.{Ty}
 use Rattle.state_types.specs.declared.types.Ty.TheVariants as ty
@@ -18,13 +16,11 @@ use Rattle.three_address.specs.Typing.{GoesTo}
 use Rattle.three_address.proofs.LabelColumns.{mark_is_live}
 use Rattle.lowering.specs.Lowered.{number_of}
 use Rattle.xanadu_tree.specs.declared.stmt.Clause.{Clause}
-use Rattle.xanadu_tree.specs.KindRules.{Setting, IsAmong}
-use Rattle.xanadu_tree.specs.Plain as core
+use Rattle.xanadu_tree.specs.KindRules.{Setting}
 use Rattle.typed_core.specs.Growth.{Continues}
-use Rattle.typed_core.specs.Joins.{is_named, Joint, entered}
+use Rattle.typed_core.specs.Joins.{is_named, Joint}
 use Rattle.typed_core.specs.Proving.{ProveAll}
 use Rattle.typed_core.specs.States.{Site, State, point, all_asked, none_asked}
-use Rattle.typed_core.specs.Tests.{Sides, tested, on_side}
 use Rattle.typed_core.proofs.GrownContexts.{RowsBelow}
 use Rattle.typed_core.proofs.KnownTypes.{IsEntry, Knows, AreWithin, entry_at, present_of}
 use Rattle.typed_core.proofs.TypeKinds.{ty_kind, like_kinds}

@@ -1,16 +1,13 @@
 -- The whole of a program is typed, where each function is.
-use Rattle.std.proofs.Common.{◌≡◌, ◌∙◌, ℕ, zero, suc, ◌+◌, ◌<◌, ◌≤◌, List, [], ◌∷◌, ◌++◌, length, map, get_or, slice_get, Option, Some, None, Result, Ok, refl, sym, ap, ap₂, subst, arith}
+use Rattle.std.proofs.Common.{◌≡◌, ◌∙◌, ℕ, suc, ◌+◌, ◌<◌, List, [], ◌∷◌, length, map, get_or, slice_get, Option, Some, Ok, refl, sym, ap, ap₂, subst, arith}
 use Rattle.std.proofs.lemmas.Option.{slice_get_within, slice_get-get_or, get_or_from_slice_get}
-use Rattle.std.specs.List.{All, AllZip, Contains}
-use Rattle.state_types.specs.Answers.{◌>>=◌}
+use Rattle.std.specs.List.{All, AllZip}
 use Rattle.state_types.specs.declared.closed.Packed.{Packed}
 use Rattle.state_types.specs.declared.closed.Signature.{Signature}
 use Rattle.state_types.specs.declared.state.StateType.{StateType}
 use Rattle.state_types.proofs.Thens.{then_ok, ok_same}
-use Rattle.lowering.specs.Lowered.{functions_of, function_of, lowered}
-use Rattle.operation_rules.specs.Rules.{Setting}
+use Rattle.lowering.specs.Lowered.{function_of, lowered}
 use Rattle.operation_rules.specs.Sound.{IsSetting, IsHeader}
-use Rattle.proof_lines.specs.declared.line.Line.{Line}
 use Rattle.three_address.specs.LiveLabels.{AreAllColumns}
 use Rattle.three_address.specs.Typing.{IsTyped, IsTypedFun, setting_of}
 use Rattle.three_address.specs.declared.function.LowFun.{LowFun}
@@ -23,13 +20,13 @@ use Rattle.xanadu_tree.specs.Shaped.{Shaped}
 use Rattle.typed_core.specs.Goals.{Elaboration}
 use Rattle.typed_core.specs.Goals as elaborated
 use Rattle.typed_core.specs.Headers.{AreDeclared, few_declarations, table_of, signatures}
-use Rattle.typed_core.specs.Proving.{ElaboratedParts, ProvedParts, IsElaboration}
+use Rattle.typed_core.specs.Proving.{ProvedParts, IsElaboration}
 use Rattle.typed_core.specs.declared.goal.GoalAt.{GoalAt}
 use Rattle.typed_core.specs.declared.note.Note.{Note}
-use Rattle.type_carrier.specs.Carried.{Columns, Functions, Carries, functions, function, no_functions, proofs_of, all_functions, carried}
+use Rattle.type_carrier.specs.Carried.{Columns, Functions, Carries, function, no_functions, proofs_of, all_functions, carried}
 use Rattle.carrier_laws.specs.TypedHeaders.{HaveTypedHeaders}
 use Rattle.carrier_laws.proofs.FunctionsCarried.{CarriedAt, function_carried}
-use Rattle.carrier_laws.proofs.ProgramsTyped.{signatures_long, functions_long, same_signatures, IsLowered, lowered_at, carried_long, columns_at}
+use Rattle.carrier_laws.proofs.ProgramsTyped.{signatures_long, functions_long, same_signatures, lowered_at, carried_long, columns_at}
 
 -- ---- what elaboration is made of
 

@@ -86,7 +86,7 @@ fn end_of_parts<'a>(
 
 /// A test, by what is asked.
 #[cycle(test_walk)]
-#[tactic(auto, using(xanadu_tree::proofs::Equations::plain_trees), unfolding(crate::specs::CarriedTests::test))]
+#[tactic(auto, using(xanadu_tree::proofs::Equations::plain_trees), unfolding(crate::specs::CarriedTests::parts_carried))]
 pub(crate) fn test<'a>(
     t: &Test,
     site: &Site<'_>,
@@ -114,7 +114,7 @@ pub(crate) fn test<'a>(
 
 // The parts of a test, by what each but the last and the last one is asked.
 #[cycle(test_walk)]
-#[tactic(auto, using(xanadu_tree::proofs::Equations::plain_trees), unfolding(crate::specs::CarriedTests::test))]
+#[tactic(auto, using(xanadu_tree::proofs::Equations::plain_trees), unfolding(crate::specs::CarriedTests::parts_carried))]
 fn all<'a>(
     parts: &[Test],
     site: &Site<'_>,
