@@ -81,7 +81,7 @@ module _ (w : Walk) (isw : IsWalk w) (columns : List (List Truth)) (has : HasLab
           → Place set w.site before st → Begins w p t st l (block_labels (core.AStmt s (core.AStmt u us)) p ++ coming) → CodeAt w.body p (block_code frame (core.AStmt s (core.AStmt u us)) p)
           → elaborated.block w.site (core.AStmt s (core.AStmt u us)) st ≡ Ok more → AllAhead w more (carried.block (sources_of w columns) (core.AStmt s (core.AStmt u us)) l)
           → Typed (completes_all (core.AStmt u us)) w columns p t (block_code frame (core.AStmt s (core.AStmt u us)) p) (block_labels (core.AStmt s (core.AStmt u us)) p) l
-            (carried.block (sources_of w columns) (core.AStmt s (core.AStmt u us)) l) more coming
+          (carried.block (sources_of w columns) (core.AStmt s (core.AStmt u us)) l) more coming
       all before after p t st l coming more are here begins at made ahead =
           let from = sources_of w columns in
           let rest = core.AStmt u us in

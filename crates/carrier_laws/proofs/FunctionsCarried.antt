@@ -144,9 +144,10 @@ module _ (proofs : Proofs) where
   states_grow (f ∷ fs) [] made = (no_more made.states, no_more made.edges)
   states_grow (f ∷ fs) (c ∷ columns) made =
       let next = with_function (function proofs c f made.notes) made in
-      let later = states_grow fs columns next in
-      (more_again made.states next.states (functions proofs fs columns next).states (some_more made.states _) later.0,
-      more_again made.edges next.edges (functions proofs fs columns next).edges (some_more made.edges _) later.1)
+      let later = states_grow fs columns next in (
+        more_again made.states next.states (functions proofs fs columns next).states (some_more made.states _) later.0,
+        more_again made.edges next.edges (functions proofs fs columns next).edges (some_more made.edges _) later.1,
+      )
 
   module _ (table : List Packed) (sigs : List Signature) (elaboration : Elaboration) where
     pub function_carried : (fs : List core.Fun) (columns : List Columns) (fun : ℕ) (goals : List GoalAt) (notes : List Note) (made : Functions)

@@ -393,7 +393,7 @@ module _ (w : Walk) (isw : IsWalk w) (columns : List (List Truth)) (has : HasLab
       → after_branches c1 c2 j w.site a (changed_by on_true on_false) (point st) (point b.one) b.two ≡ Ok more
       → AllAhead w more (branches_meet c1 c2 j from l3.now.edges l4)
       → Typed (c1 || c2) w columns p s ((front_part ++ jump_if c1 past) ++ (two_part ++ jump_if (c2 && (c1 || (is_stated j && c2))) past))
-        ((front_names ++ two_at ∷ []) ++ (two_names ++ label_if (c1 || (is_stated j && c2)) past)) l (branches_meet c1 c2 j from l3.now.edges l4) more coming
+      ((front_names ++ two_at ∷ []) ++ (two_names ++ label_if (c1 || (is_stated j && c2)) past)) l (branches_meet c1 c2 j from l3.now.edges l4) more coming
 
   edges_none : (es fs : List Edge) → es ++ fs ≡ (es ++ []) ++ fs
   edges_none es fs = ap (λ xs. xs ++ fs) (sym (append-nil es))
@@ -506,7 +506,7 @@ module _ (w : Walk) (isw : IsWalk w) (columns : List (List Truth)) (has : HasLab
       → meeting w.site a (stated j) (changed_by on_true on_false) (point st) (record { one = point b.one; two = point b.two; one_completes = c1; two_completes = c2 }) b.two ≡ Ok more
       → AllAhead w more (carried.meeting c1 c2 from (stated j) l3.now.edges l4)
       → Typed true w columns p s ((front_part ++ jump_if c1 past) ++ (two_part ++ jump_if c2 past)) ((front_names ++ two_at ∷ []) ++ (two_names ++ past ∷ [])) l
-        (carried.meeting c1 c2 from (stated j) l3.now.edges l4) more coming
+      (carried.meeting c1 c2 from (stated j) l3.now.edges l4) more coming
   unfolding meeting noting_state
   meets_typed c1 c2 j after is_clause few front one two jump_at second_there last_at past_there meets ahead =
       let changed = changed_by on_true on_false in

@@ -55,16 +55,19 @@ module _ (w : Walk) (columns : List (List Truth)) where
     runs = record { edges = []; are = edges ∙ sym (append-nil l.now.edges); states = []; chain = Done (label_state columns number noted) };
     made = label_state columns number noted ∷ [];
     made_is = states;
-    labels = (record {
-      offset = 0;
-      is = omega arith;
-      stands = refl;
-      number = number;
-      noted = noted;
-      label_is = refl;
-      place = length before;
-      is_noted = ap (λ ns. slice_get ns (length before)) notes ∙ seam before rest (note.State noted);
-    }, tt);
+    labels = (
+      record {
+        offset = 0;
+        is = omega arith;
+        stands = refl;
+        number = number;
+        noted = noted;
+        label_is = refl;
+        place = length before;
+        is_noted = ap (λ ns. slice_get ns (length before)) notes ∙ seam before rest (note.State noted);
+      },
+      tt,
+    );
   }
 
   nothing_passes : (q : ℕ) (s : StateType) (l more : Labelled) → more.now.edges ≡ l.now.edges → more.states ≡ l.states → Passes w columns q s [] [] l more s

@@ -79,9 +79,12 @@ module _ (site : Site) (clause : Clause) (changed : ℕ → Truth) (before : Sta
       let there : type_at x (with_types j.wanted j.kept.types) ≡ Some t = ap (λ (q : Joint × State). type_at x q.1.types) j.is ∙ at in
       let it = stated_over P x t j.wanted j.kept.types (all_of (λ (w : ℕ × Ty). P w.0 w.1) j.wanted (λ w a. inl a))
       (λ others found. (let un = others_unnamed x j.known.naming site.own.vars clause.vars [] j.wanted j.states others in
-      inr (un.1, subst (λ k. IsKept changed clause.vars first x before.places k.others t) j.keeps
-      (renewed_kept changed clause.vars first x t before.places (record { types = []; others = [] }) refl
-      (subst (λ k. type_at x k.types ≡ Some t) (sym j.keeps) found))))) there in
+      inr (
+        un.1,
+        subst (λ k. IsKept changed clause.vars first x before.places k.others t) j.keeps
+            (renewed_kept changed clause.vars first x t before.places (record { types = []; others = [] }) refl
+            (subst (λ k. type_at x k.types ≡ Some t) (sym j.keeps) found)),
+      ))) there in
       subst (λ (q : Joint × State). IsEntry clause changed first before q.0.wanted q.0.others x t) j.is it
 
   -- the rows of the join's state

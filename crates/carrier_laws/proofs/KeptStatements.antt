@@ -227,19 +227,21 @@ module _ (set : Setting) (site : Site) (ground : Ground set site) where
   join_leaves here after None old latest more is keys scope onward le before sound good rise j =
       (let none : more.naming ≡ latest.naming ++ [] = j.naming in
       let same : more.naming ≡ latest.naming = none ∙ append-nil latest.naming in
-      let vars = j.vars in
-      (subst (λ (p : Point). Keys site.own.vars p.indices more.naming) (sym is) (subst (λ vs. Keys site.own.vars here.indices vs) (sym same) keys),
-      subst (λ (p : Point). InScope site.own.vars p.reach more.naming more.ctx.vars) (sym is)
-      (subst (λ vs. InScope site.own.vars here.reach vs more.ctx.vars) (sym same)
-      (scope_more site.own.vars here.reach old.naming latest.naming old.ctx.vars more.ctx.vars onward (omega (arith, le, vars)) scope))))
+      let vars = j.vars in (
+        subst (λ (p : Point). Keys site.own.vars p.indices more.naming) (sym is) (subst (λ vs. Keys site.own.vars here.indices vs) (sym same) keys),
+        subst (λ (p : Point). InScope site.own.vars p.reach more.naming more.ctx.vars) (sym is)
+            (subst (λ vs. InScope site.own.vars here.reach vs more.ctx.vars) (sym same)
+            (scope_more site.own.vars here.reach old.naming latest.naming old.ctx.vars more.ctx.vars onward (omega (arith, le, vars)) scope)),
+      ))
   join_leaves here after (Some clause) old latest more is keys scope onward le before sound good rise j =
       (let vars = j.vars in
       let behind = keys_behind site.own.vars here.indices latest.ctx.vars clause latest.naming (inl is.0.first) keys in
       let within = scope_behind site.own.vars here.indices latest.ctx.vars latest.ctx.vars more.ctx.vars here.reach clause latest.naming is.0.first keys
-      (scope_more site.own.vars here.reach old.naming latest.naming old.ctx.vars latest.ctx.vars onward le scope) (omega (arith, vars)) (omega (arith, vars)) in
-      (subst (λ (p : Point). Keys site.own.vars p.indices more.naming) (sym is.1) (subst (λ vs. Keys site.own.vars (here.indices + clause.quant.count) vs) (sym j.naming) behind),
-      subst (λ (p : Point). InScope site.own.vars p.reach more.naming more.ctx.vars) (sym is.1)
-      (subst (λ vs. InScope site.own.vars (stretch_of clause.first clause.quant ∷ here.reach) vs more.ctx.vars) (sym j.naming) within)))
+      (scope_more site.own.vars here.reach old.naming latest.naming old.ctx.vars latest.ctx.vars onward le scope) (omega (arith, vars)) (omega (arith, vars)) in (
+        subst (λ (p : Point). Keys site.own.vars p.indices more.naming) (sym is.1) (subst (λ vs. Keys site.own.vars (here.indices + clause.quant.count) vs) (sym j.naming) behind),
+        subst (λ (p : Point). InScope site.own.vars p.reach more.naming more.ctx.vars) (sym is.1)
+            (subst (λ vs. InScope site.own.vars (stretch_of clause.first clause.quant ∷ here.reach) vs more.ctx.vars) (sym j.naming) within),
+      ))
 
   -- ---- branches
 
@@ -307,11 +309,15 @@ module _ (set : Setting) (site : Site) (ground : Ground set site) where
     unfolding after_branches noting_state
     after_leaves false false c is = record { is = nothing_follows c is }
     after_leaves true false None is =
-        record { is = same_leaves true _ (λ e. is) (ap (λ (p : Point). p.indices) is ∙ plus_none here.indices) refl (omega arith)
-            (noted_kept site ground.are one.ctx.rows _ (still_kept site.table (point st) one two one_sound known.types known.rise one_good two_kept.few)) one_rows }
+        record {
+          is = same_leaves true _ (λ e. is) (ap (λ (p : Point). p.indices) is ∙ plus_none here.indices) refl (omega arith)
+              (noted_kept site ground.are one.ctx.rows _ (still_kept site.table (point st) one two one_sound known.types known.rise one_good two_kept.few)) one_rows;
+        }
     after_leaves false true None is =
-        record { is = same_leaves true _ (λ e. is) (ap (λ (p : Point). p.indices) is ∙ plus_none here.indices) refl (omega arith)
-            (noted_kept site ground.are two.ctx.rows _ (still_kept site.table (point st) (point two) two two_kept.rows known.types known.rise two_kept.types two_kept.few)) two_rows }
+        record {
+          is = same_leaves true _ (λ e. is) (ap (λ (p : Point). p.indices) is ∙ plus_none here.indices) refl (omega arith)
+              (noted_kept site ground.are two.ctx.rows _ (still_kept site.table (point st) (point two) two two_kept.rows known.types known.rise two_kept.types two_kept.few)) two_rows;
+        }
     after_leaves p q c is = meeting_leaves c (record { one = one; two = point two; one_completes = p; two_completes = q }) (p || q) is
 
   -- ---- all of them

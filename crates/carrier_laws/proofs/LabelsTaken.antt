@@ -59,8 +59,11 @@ all_as f g m n a b same count t = record {
   by = λ l rest e.
       let x = t.by l rest e in
       let s = x.states in
-      record { notes = ap (λ (k : Labelled). k.now.notes) (same l) ∙ x.notes; states = ap (λ (k : Labelled). length k.states) (same l) ∙ omega (arith, s, count);
-        grows = subst (λ (k : Labelled). Continues l.states k.states) (sym (same l)) x.grows };
+      record {
+        notes = ap (λ (k : Labelled). k.now.notes) (same l) ∙ x.notes;
+        states = ap (λ (k : Labelled). length k.states) (same l) ∙ omega (arith, s, count);
+        grows = subst (λ (k : Labelled). Continues l.states k.states) (sym (same l)) x.grows;
+      };
 }
 
 abbrev pub in_now : (Carried → Carried) → Labelled → Labelled
@@ -141,7 +144,7 @@ module _ (site : Site) (from : Sources) where
   whole : (crossed : Truth) (parts : core.Tests) (inner last : Truth) (at past : ℕ) (before : List Note) (after : State)
       → TakesAll (parts_carried from inner last parts) (length (parts_labels inner last parts at)) before after.notes → (noted : StateType)
       → TakesAll (λ l. labelled_if crossed from (jump_plainly crossed (parts_carried from inner last parts l)))
-        (length (parts_labels inner last parts at ++ label_if crossed past)) before (after.notes ++ note.State noted ∷ [])
+      (length (parts_labels inner last parts at ++ label_if crossed past)) before (after.notes ++ note.State noted ∷ [])
   whole crossed parts inner last at past before after h noted =
       all_as (λ l. labelled_if crossed from (jump_plainly crossed (parts_carried from inner last parts l)))
       (λ l. labelled_if crossed from (jump_plainly crossed (parts_carried from inner last parts l))) _ _ before _ (λ l. refl)

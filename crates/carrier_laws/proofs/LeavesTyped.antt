@@ -152,15 +152,15 @@ sides_made site o types st sides few nothing e =
       same = ap (λ (x : Sides). x.after) (sym made) ∙ mid;
       on = λ b. elim b as (λ b. SideMade o types st sides b) [
         | true ↦ record {
-            ctx = yes_side.value;
-            is = subst (λ c. all_assuming (side true o types) c ≡ Ok yes_side.value) there (filled_ok (all_assuming (side true o types) one.value.ctx) yes_side.value yes_side.first);
-            rows = ap (λ (x : Sides). x.on_true) (sym made);
-          }
+          ctx = yes_side.value;
+          is = subst (λ c. all_assuming (side true o types) c ≡ Ok yes_side.value) there (filled_ok (all_assuming (side true o types) one.value.ctx) yes_side.value yes_side.first);
+          rows = ap (λ (x : Sides). x.on_true) (sym made);
+        }
         | false ↦ record {
-            ctx = no_side.value;
-            is = subst (λ c. all_assuming (side false o types) c ≡ Ok no_side.value) there (filled_ok (all_assuming (side false o types) one.value.ctx) no_side.value no_side.first);
-            rows = ap (λ (x : Sides). x.on_false) (sym made);
-          }
+          ctx = no_side.value;
+          is = subst (λ c. all_assuming (side false o types) c ≡ Ok no_side.value) there (filled_ok (all_assuming (side false o types) one.value.ctx) no_side.value no_side.first);
+          rows = ap (λ (x : Sides). x.on_false) (sym made);
+        }
       ];
     }
 

@@ -364,9 +364,11 @@ module _ (w : Walk) (isw : IsWalk w) (columns : List (List Truth)) (has : HasLab
     first : Passes w columns p s (jump (suc p) ∷ []) (suc p ∷ []) l l_begun head_state
     first =
         jump_passes w columns p s head_state (suc p) edge_in l l_begun (suc p ∷ []) (head_state ∷ []) at_jump
-        (subst (λ (c : IndexContext). c.vars ≤ 1024) (sym begins.here.now.ctx) begins.here.few) goes_in refl head_states
-        (label_behind w columns p (suc p) (suc (length l.states)) s (point looping.start) st.notes (the_edge ∷ rest_begun) refl
-        (begins.here.remains ∙ ap (λ ns. st.notes ++ ns) notes_here), tt)
+        (subst (λ (c : IndexContext). c.vars ≤ 1024) (sym begins.here.now.ctx) begins.here.few) goes_in refl head_states (
+          label_behind w columns p (suc p) (suc (length l.states)) s (point looping.start) st.notes (the_edge ∷ rest_begun) refl
+              (begins.here.remains ∙ ap (λ ns. st.notes ++ ns) notes_here),
+          tt,
+        )
 
     -- ---- the test
 
@@ -510,16 +512,19 @@ module _ (w : Walk) (isw : IsWalk w) (columns : List (List Truth)) (has : HasLab
             runs = record { edges = []; are = refl; states = []; chain = Done end_state };
             made = end_state ∷ [];
             made_is = states;
-            labels = (record {
-              offset = 0;
-              is = omega (arith, long, size);
-              stands = refl;
-              number = suc (length l_turn.states);
-              noted = point more;
-              label_is = refl;
-              place = length looping.back.notes;
-              is_noted = ap (λ ns. slice_get ns (length looping.back.notes)) whole_back ∙ seam looping.back.notes tail (note.State (point more));
-            }, tt);
+            labels = (
+              record {
+                offset = 0;
+                is = omega (arith, long, size);
+                stands = refl;
+                number = suc (length l_turn.states);
+                noted = point more;
+                label_is = refl;
+                place = length looping.back.notes;
+                is_noted = ap (λ ns. slice_get ns (length looping.back.notes)) whole_back ∙ seam looping.back.notes tail (note.State (point more));
+              },
+              tt,
+            );
           } in
           passes_on w columns q q3 mid end_state end_state B [] bl (to_end ∷ []) l_test l_turn (labelled from (way_if false from clause target l_turn)) refl (b.ends end_state) stands
 

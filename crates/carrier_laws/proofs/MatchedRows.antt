@@ -81,11 +81,14 @@ own_met values below (row ∷ rows) made all e =
     let later = own_met values below rows next all s.second in
     record {
       more = more_again made next all (some_more made (s.value ∷ [])) later.more;
-      each = (record {
-        given = s.value;
-        is = within_ok (subst_of values below row) s.value s.first;
-        among = among_more next all s.value later.more (among_right made (s.value ∷ []) s.value (inl refl));
-      }, later.each);
+      each = (
+        record {
+          given = s.value;
+          is = within_ok (subst_of values below row) s.value s.first;
+          among = among_more next all s.value later.more (among_right made (s.value ∷ []) s.value (inl refl));
+        },
+        later.each,
+      );
     }
 
 -- the rows of one index
@@ -143,11 +146,14 @@ types_met values below (w ∷ ws) (a ∷ others) made all many e =
     let here : Continues made s.value = record { rest = one.rows; is = one.behind } in
     record {
       more = more_again made s.value all here later.more;
-      each = (record {
-        rows = one.rows;
-        is = one.is;
-        among = all_among_more s.value all later.more one.rows (subst (λ l. AllByRecursion (Among l) one.rows) (sym one.behind) (all_among one.rows made));
-      }, later.each);
+      each = (
+        record {
+          rows = one.rows;
+          is = one.is;
+          among = all_among_more s.value all later.more one.rows (subst (λ l. AllByRecursion (Among l) one.rows) (sym one.behind) (all_among one.rows made));
+        },
+        later.each,
+      );
     }
 
 types_more : (values : List (ℕ × Linear)) (below : ℕ) (xs ys : List Linear) → Continues xs ys → (wanted actual : List Ty) → AllZip (TypeMet values below xs) wanted actual

@@ -183,8 +183,17 @@ module _ (st : Setting) (are : AreGood st.table st.sigs) where
   cell_by true p number is there good =
       record {
         rows = tt;
-        parts = ((tt, (p, ap (λ o. or_fault NoType o >>= (λ (x : Packed). cond x.tuple (let r : Ruling Packed = Ok x in r) (Err NoType))) there
-            ∙ ap (λ b. cond b (let r : Ruling Packed = Ok p in r) (Err NoType)) is)), tt);
+        parts = (
+          (
+            tt,
+            (
+              p,
+              ap (λ o. or_fault NoType o >>= (λ (x : Packed). cond x.tuple (let r : Ruling Packed = Ok x in r) (Err NoType))) there
+                  ∙ ap (λ b. cond b (let r : Ruling Packed = Ok p in r) (Err NoType)) is,
+            ),
+          ),
+          tt,
+        );
       }
   cell_by false p number is there good = good
 

@@ -317,9 +317,10 @@ module _ (w : Walk) (isw : IsWalk w) (p : ℕ) (s : StateType) (st : State) (c :
       let edge = demand_edge w.proofs noted.numbers in
       subst (λ (z : List LowInstr). Stepped w p s z c (demanded w.proofs c3) more) grouped
       (subst (λ ns. Stepped w p s (((ac ++ ic) ++ ec) ++ instr ∷ []) c (demanded w.proofs (record { edges = c3.edges; notes = ns })) more) (sym noted.front)
-      (effect_typed w isw p y.q s ((ac ++ ic) ++ ec) c c3 st mid y.us waits instr operation.Store (pa ∷ pi ∷ pe ∷ []) types whole (record { is = refl; as_is = refl })
-      (waits_more w.vars x.us y.us two.types mid.types pa f.value.0 y.waits.grows y.waits.types x.first,
-      (waits_more w.vars x.us y.us two.types mid.types pi g.value.0 y.waits.grows y.waits.types x.second, (y.place, tt))) refl
+      (effect_typed w isw p y.q s ((ac ++ ic) ++ ec) c c3 st mid y.us waits instr operation.Store (pa ∷ pi ∷ pe ∷ []) types whole (record { is = refl; as_is = refl }) (
+        waits_more w.vars x.us y.us two.types mid.types pa f.value.0 y.waits.grows y.waits.types x.first,
+        (waits_more w.vars x.us y.us two.types mid.types pi g.value.0 y.waits.grows y.waits.types x.second, (y.place, tt)),
+      ) refl
       (Some n) k.given more edge noted.rest k.follows refl noted.proved noted.left
       (record { on = λ p l. refl; leads = λ st labels state i types ruled label edge next g. g })))
 

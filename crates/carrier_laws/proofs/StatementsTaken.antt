@@ -44,6 +44,7 @@ use Rattle.type_carrier.specs.ProvedRows.{behind_front, plain}
 use Rattle.three_address.specs.declared.typed.Edge.{Edge}
 use Rattle.carrier_laws.proofs.LabelsTaken.{TakesAll, Left, in_now, all_on, all_as, all_now, all_none, label_left, label_taken, past_taken, test_taken}
 use Rattle.carrier_laws.proofs.NotesTaken.{Takes, takes_on, takes_as, at_note, state_taken, types_taken, operand_taken, value_taken}
+
 module _ (site : Site) (from : Sources) where
   -- ---- statements without blocks
 
@@ -226,7 +227,7 @@ module _ (site : Site) (from : Sources) where
 
   meets_taken : (at : ℕ) (clause : Clause) (changed : ℕ → Truth) (before one : StateType) (a b : Truth) (two : State)
       → Goes (λ more. TakesFront (λ first. statements.meeting a b from clause first) 1 two.notes more.notes)
-        (meeting site at clause changed before (record { one = one; two = point two; one_completes = a; two_completes = b }) two)
+      (meeting site at clause changed before (record { one = one; two = point two; one_completes = a; two_completes = b }) two)
   unfolding meeting
   meets_taken at clause changed before one a b two =
       then_answers (joined site clause changed before two) _ (joined_notes clause changed before two)
@@ -255,7 +256,7 @@ module _ (site : Site) (from : Sources) where
 
   pub branches_taken : (a b : Truth) (join : Option Clause) (at past : ℕ) (changed : ℕ → Truth) (before one : StateType) (two : State)
       → Goes (λ more. TakesFront (λ first. branches_meet a b join from first) (length (label_if (a || (is_stated join && b)) past)) two.notes more.notes)
-        (after_branches a b join site at changed before one two)
+      (after_branches a b join site at changed before one two)
   unfolding after_branches noting_state
   branches_taken false false None at past changed before one two =
       record { is = front_taken (λ l. l) 0 (λ first. first) two.notes two.notes (all_none (λ l. l) two.notes (λ l. refl) (λ l. refl)) }
@@ -292,7 +293,7 @@ module _ (site : Site) (from : Sources) where
       → TakesAll (test from false asked) (length (test_labels false asked at)) a b → TakesAll (block from on_true) (length (block_labels on_true (first_at asked at))) b c
       → TakesAll (block from on_false) (length (block_labels on_false (second_at asked on_true at))) (c ++ note.State noted ∷ []) d
       → TakesFront (λ first. branches_meet (completes_all on_true) (completes_all on_false) join from first)
-        (length (label_if (meet on_true on_false join) (meet_at asked on_true on_false join at))) d e
+      (length (label_if (meet on_true on_false join) (meet_at asked on_true on_false join at))) d e
       → TakesAll (statement from (core.If asked on_true on_false join number)) (length (statement_labels (core.If asked on_true on_false join number) at)) a e
   unfolding statement statement_labels
   if_taken asked on_true on_false join at number a b c d e noted h g k f =

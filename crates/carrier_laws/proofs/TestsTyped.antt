@@ -266,7 +266,7 @@ module _ (w : Walk) (isw : IsWalk w) (columns : List (List Truth)) (has : HasLab
         → Begins w p s st l (test_labels aim.on (core.Leaf e) p ++ coming) → CodeAt w.body p (test_code w.vars aim (core.Leaf e) p) → tested w.site (core.Leaf e) st ≡ Ok sides
         → AllAhead w sides.after (test from aim.on (core.Leaf e) l) → Aims w columns aim.to (rows_on aim.on sides) st.types
         → Typed true w columns p s (test_code w.vars aim (core.Leaf e) p) (test_labels aim.on (core.Leaf e) p) l (test from aim.on (core.Leaf e) l)
-          (on_side (rows_on (not aim.on) sides) sides.after) coming
+        (on_side (rows_on (not aim.on) sides) sides.after) coming
     unfolding tested test test_labels test_code IsTest
     leaf_typed e h aim p s st l coming sides facts begins at made ahead aims =
         let b = leaf_goes w isw columns has aim p s l.now st sides begins.here ahead.ahead aims
@@ -373,7 +373,7 @@ module _ (w : Walk) (isw : IsWalk w) (columns : List (List Truth)) (has : HasLab
         → parts_run b parts begin ≡ Ok end → AllAhead w end.after (parts_carried from b last.on parts l) → Aims w columns to rows types
         → (Continues rows end.on_true → Continues rows end.on_false → Aims w columns last.to (rows_on last.on end) types)
         → Typed true w columns p s (parts_code w.vars (aim_at b to) last parts p) (parts_labels b last.on parts p) l (parts_carried from b last.on parts l)
-          (on_side (rows_on (not last.on) end) end.after) coming
+        (on_side (rows_on (not last.on) end) end.after) coming
 
     -- the whole, where a part that decides goes behind it
     crossed_whole : (b : Truth) (parts : core.Tests) → IsSome parts → PartsTyped b parts → (to : ℕ) (p : ℕ) (s : StateType) (st : State) (l : Labelled) (coming : List ℕ) (end : Sides) (past : ℕ) → Facts st
@@ -382,7 +382,7 @@ module _ (w : Walk) (isw : IsWalk w) (columns : List (List Truth)) (has : HasLab
         → parts_run b parts (record { on_true = st.ctx.rows; on_false = st.ctx.rows; after = st }) ≡ Ok end
         → AllAhead w (noting_state st.ctx.rows end.after) (labelled from (jump_plainly true (parts_carried from b (not b) parts l))) → Aims w columns to (rows_on (not b) end) st.types
         → Typed true w columns p s (parts_code w.vars (aim_at b past) (aim_at (not b) to) parts p ++ jump past ∷ []) (parts_labels b (not b) parts p ++ past ∷ []) l
-          (labelled from (jump_plainly true (parts_carried from b (not b) parts l))) (on_side st.ctx.rows (noting_state st.ctx.rows end.after)) coming
+        (labelled from (jump_plainly true (parts_carried from b (not b) parts l))) (on_side st.ctx.rows (noting_state st.ctx.rows end.after)) coming
     unfolding noting_state
     crossed_whole b parts some go to p s st l coming end past facts there begins at made ahead aims =
         let begin : Sides = record { on_true = st.ctx.rows; on_false = st.ctx.rows; after = st } in
@@ -422,7 +422,7 @@ module _ (w : Walk) (isw : IsWalk w) (columns : List (List Truth)) (has : HasLab
         → parts_run b parts (record { on_true = st.ctx.rows; on_false = st.ctx.rows; after = st }) ≡ Ok end
         → AllAhead w (noting_state st.ctx.rows end.after) (record (parts_carried from b b parts l) { now = past_note (parts_carried from b b parts l).now }) → Aims w columns to st.ctx.rows st.types
         → Typed true w columns p s (parts_code w.vars (aim_at b to) (aim_at b to) parts p ++ []) (parts_labels b b parts p ++ []) l
-          (record (parts_carried from b b parts l) { now = past_note (parts_carried from b b parts l).now }) (on_side (rows_on (not b) end) (noting_state st.ctx.rows end.after)) coming
+        (record (parts_carried from b b parts l) { now = past_note (parts_carried from b b parts l).now }) (on_side (rows_on (not b) end) (noting_state st.ctx.rows end.after)) coming
     unfolding noting_state
     straight_whole b parts some go to p s st l coming end facts begins at made ahead aims =
         let begin : Sides = record { on_true = st.ctx.rows; on_false = st.ctx.rows; after = st } in

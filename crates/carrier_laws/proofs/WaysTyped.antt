@@ -92,8 +92,8 @@ module _ (w : Walk) (columns : List (List Truth)) (has : HasLabels w columns) (c
   pub way_goes : ProveAll w.proofs.goals w.proofs.lines → Continues more.goals w.proofs.goals → (to number : ℕ) → LabelAt w columns to number (point p.1) → Within w from.types
       → ((x : ℕ) (t : Ty) → Live w.body.fun to x → type_at x from.types ≡ Some t → type_at x s.places ≡ Some t)
       → GoesTo w.site.own w.body.labels s (number_of w.body.positions to)
-        (way_edge w.proofs clause.vars (Some (label_state columns (suc number) (point p.1)))
-        (way entry.values entry.actual (all_asked w.site at from.ctx entry.found.rows (none_asked st)).numbers))
+      (way_edge w.proofs clause.vars (Some (label_state columns (suc number) (point p.1)))
+      (way entry.values entry.actual (all_asked w.site at from.ctx entry.found.rows (none_asked st)).numbers))
   way_goes proved goals to number label within agree = record {
     before = number;
     number = label.number_is;
