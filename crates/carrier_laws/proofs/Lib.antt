@@ -37,6 +37,7 @@ pub mod LabelsMet
 pub mod NotesTaken
 pub mod LabelsTaken
 pub mod StatementsTaken
+pub mod StatesTaken
 pub mod JumpsTyped
 pub mod FragmentsJoined
 pub mod WaysTyped

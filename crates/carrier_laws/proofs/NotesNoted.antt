@@ -1,5 +1,5 @@
 -- All states that elaboration notes along a body of a shaped core are those of labels.
-use Rattle.std.proofs.Common.{◌≡◌, ◌∙◌, ℕ, suc, ◌+◌, ◌≤◌, List, [], ◌∷◌, ◌++◌, map, length, Bool as Truth, true, false, Option, Some, None, Result, Ok, Err, refl, sym, ap, subst, arith}
+use Rattle.std.proofs.Common.{◌≡◌, ◌∙◌, ℕ, suc, ◌+◌, ◌≤◌, List, [], ◌∷◌, ◌++◌, map, length, Bool as Truth, true, false, Option, Some, None, Result, Ok, Err, refl, sym, ap, subst, arith, append_assoc, append-nil}
 use Rattle.std.specs.Prelude.{◌||◌}
 use Rattle.std.specs.List.{AllByRecursion, list_all}
 use Rattle.xan_lin.specs.Linear.{Linear}
@@ -45,34 +45,82 @@ use Rattle.source_safety.proofs.BranchParts.{branching_is}
 use Rattle.source_safety.proofs.LoopParts.{looping_is}
 use Rattle.carrier_laws.proofs.KeptStates.{tested_kept, side_kept}
 use Rattle.carrier_laws.proofs.NotedStates.{IsNoted, noted_by_facts}
+use Rattle.carrier_laws.proofs.StatesTaken.{OfState}
 use Rattle.carrier_laws.proofs.PlacesKept.{Grounds, Facts, Place, facts_of, true_place, statement_place, other_place, begun_place}
 
--- the notes are well
+-- the note is well
 abbrev pub IsWell : Site → Note → Type 0
-IsWell site (note.State noted) = IsNoted site.table site.own.vars noted
-IsWell site (note.Edge values present numbers) = Unit {0}
-IsWell site (note.Demand numbers) = Unit {0}
+IsWell site one = OfState (IsNoted site.table site.own.vars) one
 
-pub record AreWell (site : Site) (notes : List Note) : Type 0 where
-  pub each : AllByRecursion (IsWell site) notes
+-- behind the notes of functions before it, those of this one are well
+pub record AreWell (site : Site) (first notes : List Note) : Type 0 where
+  pub made : List Note
+  pub is : notes ≡ first ++ made
+  pub each : AllByRecursion (IsWell site) made
 
 push : (site : Site) (notes : List Note) (one : Note) → AllByRecursion (IsWell site) notes → IsWell site one → AllByRecursion (IsWell site) (notes ++ one ∷ [])
 push site [] one all is = (is, tt)
 push site (n ∷ notes) one all is = (all.0, push site notes one all.1 is)
 
-pub well_more : (site : Site) (notes more : List Note) (one : Note) → more ≡ notes ++ one ∷ [] → AreWell site notes → IsWell site one → AreWell site more
-well_more site notes more one same all is = record { each = subst (AllByRecursion (IsWell site)) (sym same) (push site notes one all.each is) }
+pub none_made : (site : Site) (first : List Note) → AreWell site first first
+none_made site first = record { made = []; is = sym (append-nil first); each = tt }
+
+pub well_more : (site : Site) (first notes more : List Note) (one : Note) → more ≡ notes ++ one ∷ [] → AreWell site first notes → IsWell site one → AreWell site first more
+well_more site first notes more one same all is = record {
+  made = all.made ++ one ∷ [];
+  is = same ∙ ap (λ ns. ns ++ one ∷ []) all.is ∙ append_assoc first all.made (one ∷ []);
+  each = push site all.made one all.each is;
+}
+
+-- ---- where control flow meets
+
+module _ (site : Site) where
+  fresh_same : (count : ℕ) (st : State) → Goes (λ more. more.notes ≡ st.notes) (with_fresh count st)
+  unfolding with_fresh
+  fresh_same count st = then_answers (by_rule (filled (widened count st.ctx))) _ (any_answer (by_rule (filled (widened count st.ctx)))) (λ ctx u. record { is = refl })
+
+  assumed_same : (rows : List (Result Linear TooLarge)) (st : State) → Goes (λ more. more.notes ≡ st.notes) (assuming rows st)
+  unfolding assuming
+  assumed_same rows st = then_answers (by_rule (filled (all_assuming rows st.ctx))) _ (any_answer (by_rule (filled (all_assuming rows st.ctx)))) (λ ctx u. record { is = refl })
+
+  renewing_same : (clause : Clause) (changed : ℕ → Truth) (before : StateType) (latest : State) → Goes (λ r. r.1.notes ≡ latest.notes) (renewing clause changed before latest)
+  unfolding renewing
+  renewing_same clause changed before latest =
+      then_answers (few_places before.places) _ (any_answer (few_places before.places))
+      (λ u h. let kept = renewed changed clause.vars (latest.ctx.vars + clause.quant.count) before.places (record { types = []; others = [] }) in
+      then_answers (with_fresh (clause.quant.count + length kept.others) (resuming before.ctx.rows before.places latest)) _
+      (fresh_same (clause.quant.count + length kept.others) (resuming before.ctx.rows before.places latest)) (λ more g. record { is = g }))
+
+  stating_same : (naming : List (ℕ × Linear)) (own : ℕ) (clause : Clause) (st : State) → Goes (λ r. r.1.notes ≡ st.notes) (stating naming own clause st)
+  unfolding stating
+  stating_same naming own clause st =
+      let rows = map (renamed naming own) clause.quant.rows in
+      then_answers (held (values_rise 0 naming)) _ (any_answer (held (values_rise 0 naming)))
+      (λ u h. then_answers (held (clause_rises clause)) _ (any_answer (held (clause_rises clause)))
+      (λ v g. then_answers (held (list_all (row_below st.ctx.vars) rows)) _ (any_answer (held (list_all (row_below st.ctx.vars) rows)))
+      (λ w k. then_answers (assuming rows st) _ (assumed_same rows st) (λ more l. record { is = l }))))
+
+  -- the join's state is noted
+  pub joined_noted : (clause : Clause) (changed : ℕ → Truth) (before : StateType) (latest : State)
+      → Goes (λ r. r.1.notes ≡ latest.notes ++ note.State (point r.1) ∷ []) (joined site clause changed before latest)
+  unfolding joined noting_state
+  joined_noted clause changed before latest =
+      then_answers (renewing clause changed before latest) _ (renewing_same clause changed before latest)
+      (λ r h. let begun = naming_more (variables_from clause.first latest.ctx.vars clause.quant.count) r.1 in
+      then_answers (stating begun.naming site.own.vars clause begun) _ (stating_same begun.naming site.own.vars clause begun)
+      (λ s g. then_answers (stated_types s.1.naming site.own.vars clause.vars []) _ (any_answer (stated_types s.1.naming site.own.vars clause.vars []))
+      (λ wanted u. record { is = ap (λ ns. ns ++ note.State (record { ctx = record { vars = s.1.ctx.vars; rows = s.1.ctx.rows }; places = with_types wanted r.0.types }) ∷ []) (g ∙ h) })))
 
 -- ---- expressions note no states
 
-module _ (site : Site) where
+module _ (site : Site) (first : List Note) where
   abbrev Well : State → Type 0
-  Well st = AreWell site st.notes
+  Well st = AreWell site first st.notes
 
-  asked_well : (at : Option ℕ) (rows : List Linear) (st : State) → Well st → AreWell site (asking site at rows st).notes
+  asked_well : (at : Option ℕ) (rows : List Linear) (st : State) → Well st → AreWell site first (asking site at rows st).notes
   unfolding demanding
   asked_well None rows st k = k
-  asked_well (Some at) rows st k = well_more site st.notes _ (note.Demand (all_asked site at st.ctx rows (none_asked st)).numbers) refl k tt
+  asked_well (Some at) rows st k = well_more site first st.notes _ (note.Demand (all_asked site at st.ctx rows (none_asked st)).numbers) refl k tt
 
   types_well : (at : Option ℕ) (op : Operation) (types : List Ty) (st : State) → Well st → Goes (λ r. Well r.1) (types_by site at op types st)
   unfolding types_by
@@ -191,43 +239,7 @@ module _ (site : Site) where
       (λ p h. then_answers (operand site right p.1) _ (operand_well right p.1 h) (λ q g. branched_well (operation.Branch (comparison_of r)) (in_order r p.0 q.0) q.1 g))
   leaf_well e st k = truth_well e st k
 
-  -- ---- where control flow meets
-
-  fresh_same : (count : ℕ) (st : State) → Goes (λ more. more.notes ≡ st.notes) (with_fresh count st)
-  unfolding with_fresh
-  fresh_same count st = then_answers (by_rule (filled (widened count st.ctx))) _ (any_answer (by_rule (filled (widened count st.ctx)))) (λ ctx u. record { is = refl })
-
-  assumed_same : (rows : List (Result Linear TooLarge)) (st : State) → Goes (λ more. more.notes ≡ st.notes) (assuming rows st)
-  unfolding assuming
-  assumed_same rows st = then_answers (by_rule (filled (all_assuming rows st.ctx))) _ (any_answer (by_rule (filled (all_assuming rows st.ctx)))) (λ ctx u. record { is = refl })
-
-  renewing_same : (clause : Clause) (changed : ℕ → Truth) (before : StateType) (latest : State) → Goes (λ r. r.1.notes ≡ latest.notes) (renewing clause changed before latest)
-  unfolding renewing
-  renewing_same clause changed before latest =
-      then_answers (few_places before.places) _ (any_answer (few_places before.places))
-      (λ u h. let kept = renewed changed clause.vars (latest.ctx.vars + clause.quant.count) before.places (record { types = []; others = [] }) in
-      then_answers (with_fresh (clause.quant.count + length kept.others) (resuming before.ctx.rows before.places latest)) _
-      (fresh_same (clause.quant.count + length kept.others) (resuming before.ctx.rows before.places latest)) (λ more g. record { is = g }))
-
-  stating_same : (naming : List (ℕ × Linear)) (own : ℕ) (clause : Clause) (st : State) → Goes (λ r. r.1.notes ≡ st.notes) (stating naming own clause st)
-  unfolding stating
-  stating_same naming own clause st =
-      let rows = map (renamed naming own) clause.quant.rows in
-      then_answers (held (values_rise 0 naming)) _ (any_answer (held (values_rise 0 naming)))
-      (λ u h. then_answers (held (clause_rises clause)) _ (any_answer (held (clause_rises clause)))
-      (λ v g. then_answers (held (list_all (row_below st.ctx.vars) rows)) _ (any_answer (held (list_all (row_below st.ctx.vars) rows)))
-      (λ w k. then_answers (assuming rows st) _ (assumed_same rows st) (λ more l. record { is = l }))))
-
-  -- the join's state is noted
-  pub joined_noted : (clause : Clause) (changed : ℕ → Truth) (before : StateType) (latest : State)
-      → Goes (λ r. r.1.notes ≡ latest.notes ++ note.State (point r.1) ∷ []) (joined site clause changed before latest)
-  unfolding joined noting_state
-  joined_noted clause changed before latest =
-      then_answers (renewing clause changed before latest) _ (renewing_same clause changed before latest)
-      (λ r h. let begun = naming_more (variables_from clause.first latest.ctx.vars clause.quant.count) r.1 in
-      then_answers (stating begun.naming site.own.vars clause begun) _ (stating_same begun.naming site.own.vars clause begun)
-      (λ s g. then_answers (stated_types s.1.naming site.own.vars clause.vars []) _ (any_answer (stated_types s.1.naming site.own.vars clause.vars []))
-      (λ wanted u. record { is = ap (λ ns. ns ++ note.State (record { ctx = record { vars = s.1.ctx.vars; rows = s.1.ctx.rows }; places = with_types wanted r.0.types }) ∷ []) (g ∙ h) })))
+  -- ---- ways
 
   entered_well : (at : ℕ) (joint : Joint) (end : StateType) (st : State) → Well st → Goes Well (entered site at joint end st)
   unfolding entered
@@ -236,7 +248,7 @@ module _ (site : Site) where
       (λ f h. then_answers (within_bounds joint.past) _ (any_answer (within_bounds joint.past))
       (λ u g. then_answers (values_at end.places (joint.first + joint.count) joint.others f.1.values) _
       (any_answer (values_at end.places (joint.first + joint.count) joint.others f.1.values))
-      (λ values v. record { is = well_more site st.notes _ (note.Edge values f.0 (all_asked site at end.ctx f.1.rows (none_asked st)).numbers) refl k tt })))
+      (λ values v. record { is = well_more site first st.notes _ (note.Edge values f.0 (all_asked site at end.ctx f.1.rows (none_asked st)).numbers) refl k tt })))
 
   entered_if_well : (so : Truth) (at : ℕ) (joint : Joint) (end : StateType) (st : State) → Well st → Goes Well (entered_if so site at joint end st)
   unfolding entered_if
@@ -245,7 +257,7 @@ module _ (site : Site) where
 
   noting_well : (rows : List Linear) (st : State) → Well st → IsNoted site.table site.own.vars (point (resuming rows st.types st)) → Well (noting_state rows st)
   unfolding noting_state
-  noting_well rows st k is = well_more site st.notes _ (note.State (point (resuming rows st.types st))) refl k is
+  noting_well rows st k is = well_more site first st.notes _ (note.State (point (resuming rows st.types st))) refl k is
 
 -- ---- tests
 
@@ -281,6 +293,7 @@ module _ (set : Setting) (site : Site) (g : Grounds set site) where
       }))
       (both_answers (tested site t st) (tested_kept site g.ground.are t st f.kept) (both_answers (tested site t st) (tested_goes site t st) (goes_of (tested site t st) (tested_stays site g.closed t st f.typed))))
 
+module _ (set : Setting) (site : Site) (g : Grounds set site) (first : List Note) where
   -- these rows hold there too
   with_rows : (st last : State) (rows : List Linear) → Facts site st → st.ctx.vars ≤ last.ctx.vars → Facts site (on_side rows last) → Facts site (on_side st.ctx.rows last)
   with_rows st last rows f le l = record {
@@ -294,7 +307,7 @@ module _ (set : Setting) (site : Site) (g : Grounds set site) where
     on_true : Facts site (on_side sides.on_true sides.after)
     on_false : Facts site (on_side sides.on_false sides.after)
     vars : before.ctx.vars ≤ sides.after.ctx.vars
-    notes : AreWell site sides.after.notes
+    notes : AreWell site first sides.after.notes
 
   parts_on : (a b : State) (sides : Sides) → a.ctx.vars ≤ b.ctx.vars → PartsAt b sides → PartsAt a sides
   parts_on a b sides le p = record { on_true = p.on_true; on_false = p.on_false; vars = (let h = p.vars in omega (arith, le, h)); notes = p.notes }
@@ -309,25 +322,25 @@ module _ (set : Setting) (site : Site) (g : Grounds set site) where
   mutual
     unfolding tested
 
-    pub tested_well : (t : core.Test) (st : State) → Facts site st → AreWell site st.notes → Goes (λ sides. AreWell site sides.after.notes) (tested site t st)
-    tested_well (core.Leaf e) st f k = leaf_well site e st k
+    pub tested_well : (t : core.Test) (st : State) → Facts site st → AreWell site first st.notes → Goes (λ sides. AreWell site first sides.after.notes) (tested site t st)
+    tested_well (core.Leaf e) st f k = leaf_well site first e st k
     tested_well (core.All parts) st f k =
         let begin : Sides = record { on_true = st.ctx.rows; on_false = st.ctx.rows; after = st } in
         then_answers (all_true site parts begin) _
         (all_true_well parts begin (record { on_true = on_own st f; on_false = on_own st f; vars = omega arith; notes = k }))
-        (λ last h. record { is = noting_well site st.ctx.rows last.after h.notes (noted_by_facts site (on_side st.ctx.rows last.after) (with_rows st last.after last.on_true f h.vars h.on_true)) })
+        (λ last h. record { is = noting_well site first st.ctx.rows last.after h.notes (noted_by_facts site (on_side st.ctx.rows last.after) (with_rows st last.after last.on_true f h.vars h.on_true)) })
     tested_well (core.Any parts) st f k =
         let begin : Sides = record { on_true = st.ctx.rows; on_false = st.ctx.rows; after = st } in
         then_answers (all_false site parts begin) _
         (all_false_well parts begin (record { on_true = on_own st f; on_false = on_own st f; vars = omega arith; notes = k }))
-        (λ last h. record { is = noting_well site st.ctx.rows last.after h.notes (noted_by_facts site (on_side st.ctx.rows last.after) (with_rows st last.after last.on_true f h.vars h.on_true)) })
+        (λ last h. record { is = noting_well site first st.ctx.rows last.after h.notes (noted_by_facts site (on_side st.ctx.rows last.after) (with_rows st last.after last.on_true f h.vars h.on_true)) })
     tested_well (core.Not part) st f k = then_answers (tested site part st) _ (tested_well part st f k) (λ sides h. record { is = h })
 
     all_true_well : (parts : core.Tests) (sides : Sides) → PartsAt sides.after sides → Goes (PartsAt sides.after) (all_true site parts sides)
     all_true_well core.NoTest sides p = record { is = p }
     all_true_well (core.ATest t others) sides p =
         let here = on_side sides.on_true sides.after in
-        then_answers (tested site t here) _ (both_answers (tested site t here) (sides_facts t here p.on_true) (tested_well t here p.on_true p.notes))
+        then_answers (tested site t here) _ (both_answers (tested site t here) (sides_facts set site g t here p.on_true) (tested_well t here p.on_true p.notes))
         (λ more h. weaker (all_true site others more) (λ last l. parts_on sides.after more.after last h.0.vars l)
         (all_true_well others more (record { on_true = h.0.on_true; on_false = h.0.on_false; vars = omega arith; notes = h.1 })))
 
@@ -335,23 +348,23 @@ module _ (set : Setting) (site : Site) (g : Grounds set site) where
     all_false_well core.NoTest sides p = record { is = p }
     all_false_well (core.ATest t others) sides p =
         let here = on_side sides.on_false sides.after in
-        then_answers (tested site t here) _ (both_answers (tested site t here) (sides_facts t here p.on_false) (tested_well t here p.on_false p.notes))
+        then_answers (tested site t here) _ (both_answers (tested site t here) (sides_facts set site g t here p.on_false) (tested_well t here p.on_false p.notes))
         (λ more h. weaker (all_false site others more) (λ last l. parts_on sides.after more.after last h.0.vars l)
         (all_false_well others more (record { on_true = h.0.on_true; on_false = h.0.on_false; vars = omega arith; notes = h.1 })))
 
   -- ---- statements
 
   abbrev Well_st : State → Type 0
-  Well_st st = AreWell site st.notes
+  Well_st st = AreWell site first st.notes
 
   -- where branches meet; what follows is known where one completes
   same_notes : (a b : State) → a ≡ b → Well_st a → Well_st b
-  same_notes a b e k = subst (λ (x : State). AreWell site x.notes) e k
+  same_notes a b e k = subst (λ (x : State). AreWell site first x.notes) e k
 
   going_well : (before end : StateType) (latest more : State) → Well_st latest → Facts site more → going_on before end latest ≡ more → Well_st more
   unfolding noting_state
   going_well before end latest more k f e =
-      well_more site latest.notes more.notes (note.State (point more)) (sym (ap (λ (x : State). x.notes) e) ∙ ap (λ (x : State). latest.notes ++ note.State (point x) ∷ []) e) k
+      well_more site first latest.notes more.notes (note.State (point more)) (sym (ap (λ (x : State). x.notes) e) ∙ ap (λ (x : State). latest.notes ++ note.State (point x) ∷ []) e) k
       (noted_by_facts site more f)
 
   meeting_well : (at : ℕ) (clause : Clause) (changed : ℕ → Truth) (before : StateType) (ends : Branches) (latest more : State) → Well_st latest → Facts site more
@@ -360,14 +373,14 @@ module _ (set : Setting) (site : Site) (g : Grounds set site) where
   meeting_well at clause changed before ends latest more k f e =
       let j = then_ok (joined site clause changed before latest) _ more e in
       let one = then_ok (entered_if ends.one_completes site at j.value.0 ends.one j.value.1) _ more j.second in
-      let first = answered (entered_if ends.one_completes site at j.value.0 ends.one j.value.1) one.value (entered_if_goes ends.one_completes site at j.value.0 ends.one j.value.1) one.first in
+      let entry = answered (entered_if ends.one_completes site at j.value.0 ends.one j.value.1) one.value (entered_if_goes ends.one_completes site at j.value.0 ends.one j.value.1) one.first in
       let second = answered (entered_if ends.two_completes site at j.value.0 ends.two one.value) more (entered_if_goes ends.two_completes site at j.value.0 ends.two one.value) one.second in
       let noted = answered (joined site clause changed before latest) j.value (joined_noted site clause changed before latest) j.first in
       let same : point more ≡ point j.value.1 =
-      ap (λ x. let s : StateType = record { ctx = x; places = more.types } in s) (second.ctx ∙ first.ctx) ∙ ap (λ x. let s : StateType = record { ctx = j.value.1.ctx; places = x } in s) (second.types ∙ first.types) in
-      let start = well_more site latest.notes j.value.1.notes (note.State (point j.value.1)) noted k (subst (IsNoted site.table site.own.vars) same (noted_by_facts site more f)) in
-      let a = answered (entered_if ends.one_completes site at j.value.0 ends.one j.value.1) one.value (entered_if_well site ends.one_completes at j.value.0 ends.one j.value.1 start) one.first in
-      answered (entered_if ends.two_completes site at j.value.0 ends.two one.value) more (entered_if_well site ends.two_completes at j.value.0 ends.two one.value a) one.second
+      ap (λ x. let s : StateType = record { ctx = x; places = more.types } in s) (second.ctx ∙ entry.ctx) ∙ ap (λ x. let s : StateType = record { ctx = j.value.1.ctx; places = x } in s) (second.types ∙ entry.types) in
+      let start = well_more site first latest.notes j.value.1.notes (note.State (point j.value.1)) noted k (subst (IsNoted site.table site.own.vars) same (noted_by_facts site more f)) in
+      let a = answered (entered_if ends.one_completes site at j.value.0 ends.one j.value.1) one.value (entered_if_well site first ends.one_completes at j.value.0 ends.one j.value.1 start) one.first in
+      answered (entered_if ends.two_completes site at j.value.0 ends.two one.value) more (entered_if_well site first ends.two_completes at j.value.0 ends.two one.value a) one.second
 
   after_well : (one_completes two_completes : Truth) (join : Option Clause) (at : ℕ) (changed : ℕ → Truth) (before one : StateType) (two more : State) → Well_st two
       → ((one_completes || two_completes) ≡ true → Facts site more) → after_branches one_completes two_completes join site at changed before one two ≡ Ok more → Well_st more
@@ -384,11 +397,11 @@ module _ (set : Setting) (site : Site) (g : Grounds set site) where
 
     pub statement_well : (s : core.Stmt) (before after : Point) (st more : State) → IsStatement set before s after → Place set site before st → Well_st st → statement site s st ≡ Ok more
         → Well_st more
-    statement_well (core.Set x e) before after st more is here k made = answered (assigned site x e st) more (assigned_well site x e st k) made
-    statement_well (core.Split xs e at) before after st more is here k made = answered (split site xs e st) more (split_well site xs e st k) made
-    statement_well (core.Store array index e at) before after st more is here k made = answered (store site array index e at st) more (store_well site array index e at st k) made
-    statement_well (core.Do call) before after st more is here k made = answered (done site call st) more (done_well site call st k) made
-    statement_well (core.Print e) before after st more is here k made = answered (printed site e st) more (printed_well site e st k) made
+    statement_well (core.Set x e) before after st more is here k made = answered (assigned site x e st) more (assigned_well site first x e st k) made
+    statement_well (core.Split xs e at) before after st more is here k made = answered (split site xs e st) more (split_well site first xs e st k) made
+    statement_well (core.Store array index e at) before after st more is here k made = answered (store site array index e at st) more (store_well site first array index e at st k) made
+    statement_well (core.Do call) before after st more is here k made = answered (done site call st) more (done_well site first call st k) made
+    statement_well (core.Print e) before after st more is here k made = answered (printed site e st) more (printed_well site first e st k) made
     statement_well (core.If test on_true on_false join at) before after st more is here k made =
         let b = branching_is site test on_true on_false join at st more made in
         let facts = facts_of set site g before st here in
@@ -397,7 +410,7 @@ module _ (set : Setting) (site : Site) (g : Grounds set site) where
         let one = block_well on_true before is.0 side b.one is.3 (true_place set site g test before st b.sides b.tests here) t b.first in
         let other = other_branch b.sides.on_false st b.one in
         let other_here = other_place set site g test on_true before is.0 st b.one b.sides is.3 b.tests b.first here in
-        let noted = noting_well site b.sides.on_false (resuming b.sides.on_false st.types b.one) one (noted_by_facts site other (facts_of set site g (behind_block before is.0) other other_here)) in
+        let noted = noting_well site first b.sides.on_false (resuming b.sides.on_false st.types b.one) one (noted_by_facts site other (facts_of set site g (behind_block before is.0) other other_here)) in
         let two = block_well on_false (behind_block before is.0) is.1 other b.two is.4 other_here noted b.second in
         after_well (completes_all on_true) (completes_all on_false) join at _ (point st) (point b.one) b.two more two
         (λ may. facts_of set site g after more (statement_place set site g (core.If test on_true on_false join at) before after st more is made may here)) b.meets
@@ -410,15 +423,15 @@ module _ (set : Setting) (site : Site) (g : Grounds set site) where
         let same : point l.begun ≡ point l.start =
         ap (λ x. let s : StateType = record { ctx = x; places = l.begun.types } in s) goes.ctx ∙ ap (λ x. let s : StateType = record { ctx = l.start.ctx; places = x } in s) goes.types in
         let facts = facts_of set site g is.0 l.begun begun_here in
-        let start = well_more site st.notes l.start.notes (note.State (point l.start)) noted k (subst (IsNoted site.table site.own.vars) same (noted_by_facts site l.begun facts)) in
-        let begun = answered (entered site at l.joint (point st) l.start) l.begun (entered_well site at l.joint (point st) l.start start) l.enters in
+        let start = well_more site first st.notes l.start.notes (note.State (point l.start)) noted k (subst (IsNoted site.table site.own.vars) same (noted_by_facts site l.begun facts)) in
+        let begun = answered (entered site at l.joint (point st) l.start) l.begun (entered_well site first at l.joint (point st) l.start start) l.enters in
         let t = answered (tested site test l.begun) l.sides (tested_well test l.begun facts begun) l.tests in
         let side = on_side l.sides.on_true l.sides.after in
         let turn = block_well body is.0 is.1 side l.turn is.4 (true_place set site g test is.0 l.begun l.sides l.tests begun_here) t l.inner in
-        let back = answered (entered_if (completes_all body) site at l.joint (point l.turn) l.turn) l.back (entered_if_well site (completes_all body) at l.joint (point l.turn) l.turn turn) l.turns in
+        let back = answered (entered_if (completes_all body) site at l.joint (point l.turn) l.turn) l.back (entered_if_well site first (completes_all body) at l.joint (point l.turn) l.turn turn) l.turns in
         let behind = facts_of set site g after more (statement_place set site g (core.While test head body at) before after st more is made refl here) in
-        well_more site l.back.notes more.notes (note.State (point more)) (sym (ap (λ (x : State). x.notes) l.is) ∙ ap (λ (x : State). l.back.notes ++ note.State (point x) ∷ []) l.is) back (noted_by_facts site more behind)
-    statement_well (core.Return value at) before after st more is here k made = answered (returning site value at st) more (returning_well site value at st k) made
+        well_more site first l.back.notes more.notes (note.State (point more)) (sym (ap (λ (x : State). x.notes) l.is) ∙ ap (λ (x : State). l.back.notes ++ note.State (point x) ∷ []) l.is) back (noted_by_facts site more behind)
+    statement_well (core.Return value at) before after st more is here k made = answered (returning site value at st) more (returning_well site first value at st k) made
 
     pub block_well : (ss : core.Stmts) (before after : Point) (st more : State) → AreStatements set before ss after → Place set site before st → Well_st st → block site ss st ≡ Ok more
         → Well_st more
