@@ -161,7 +161,7 @@ so_stops _ s = absurd s
 
 -- ---- a whole function
 
-get_last : {A : Type 0} (xs : List A) (x y : A) (k : ℕ) → slice_get (xs ++ x ∷ []) k ≡ Some y → k < length xs → slice_get xs k ≡ Some y
+pub get_last : {A : Type 0} (xs : List A) (x y : A) (k : ℕ) → slice_get (xs ++ x ∷ []) k ≡ Some y → k < length xs → slice_get xs k ≡ Some y
 get_last [] x y k e lt = absurd (omega (arith, lt))
 get_last (z ∷ xs) x y zero e lt = e
 get_last (z ∷ xs) x y (suc k) e lt = get_last xs x y k e (omega (arith, lt))

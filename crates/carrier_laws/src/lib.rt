@@ -7,4 +7,4 @@
 
 mod laws;
 
-pub use crate::laws::carried_headers_are_typed;
+pub use crate::laws::{carried_code_is_typed, carried_headers_are_typed};
