@@ -66,7 +66,7 @@ use Rattle.carrier_laws.proofs.ProgramsTyped.{signatures_long, same_signatures}
 use Rattle.carrier_laws.proofs.StartsFound.{IsStart, start_is, start_place, start_vars, starts}
 use Rattle.carrier_laws.proofs.StatementsTaken.{block_taken}
 use Rattle.carrier_laws.proofs.StatesTaken.{OfState, IsCut, Makes, block_made}
-use Rattle.carrier_laws.proofs.WholeTyped.{FunctionsTyped, IsMade, made_is, program_typed}
+use Rattle.carrier_laws.proofs.WholeTyped.{FunctionsTyped, parts, declared, sigs_same, program_typed}
 
 -- ---- places of instructions
 
@@ -147,15 +147,6 @@ module _ (program : ProvedParts) (is_shaped : Shaped (plain_core program.base.co
   abbrev low : Lowered
   low = lowered program.base
 
-  headers : IsMade the made
-  headers = made_is the made is
-
-  declared : AreDeclared made.table made.sigs
-  declared = declarations_are_closed the made.table made.sigs is_shaped headers.types headers.headers
-
-  sigs_same : map (λ (fun : LowFun). fun.sig) low.funs ≡ made.sigs
-  sigs_same = same_signatures the the.funs made.sigs (signatures_long the.funs [] made.sigs headers.headers ∙ omega arith)
-
   module _ (number : ℕ) (f : core.Fun) (sig : Signature) (columns : Columns) (all : Functions) (there : slice_get the.funs number ≡ Some f) (signed : slice_get made.sigs number ≡ Some sig)
       (live : AreAllColumns (function_of the f sig) columns) (c : CarriedAt (proofs_of program) made.table made.sigs made number f columns all number) where
     abbrev fun : LowFun
@@ -195,7 +186,7 @@ module _ (program : ProvedParts) (is_shaped : Shaped (plain_core program.base.co
 
     is_walk : IsWalk w
     is_walk = record {
-      setting = ap₂ (λ ss s. let st : Setting = record { table = made.table; sigs = ss; own = s } in st) sigs_same (sym own_is);
+      setting = ap₂ (λ ss s. let st : Setting = record { table = made.table; sigs = ss; own = s } in st) (sigs_same program is_shaped is) (sym own_is);
       proved = proved;
     }
 
@@ -210,18 +201,18 @@ module _ (program : ProvedParts) (is_shaped : Shaped (plain_core program.base.co
     exact : IsExact f c.own
     exact =
         let from : 0 + number ≡ number = omega arith in
-        let at = signature_at the.funs [] made.sigs number f headers.headers there in
+        let at = signature_at the.funs [] made.sigs number f (parts program is_shaped is).headers there in
         let same = same_Some at.sig c.own (sym at.there ∙ ap (λ n. slice_get made.sigs n) from ∙ c.signature) in
         subst (IsExact f) same (signature_is f at.sig at.is)
 
     few : c.own.vars ≤ 1024
-    few = (each IsFew made.sigs number c.own declared.signed c.signature).vars
+    few = (each IsFew made.sigs number c.own (declared program is_shaped is).signed c.signature).vars
 
     at : IsAt (setting_in the f) c.own.vars (shaped.body_start f) c.start
     at = record {
       knows = answered (body_start c.own c.goals c.notes) c.start
           (start_fits the.types (map header the.funs) f b.rules c.own (subst (IsSignedOf f) own_body b.signed) c.goals c.notes) c.begins;
-      behind = answered (body_start c.own c.goals c.notes) c.start (start_stays c.own f.quant.count c.goals c.notes (each IsHeader made.sigs number c.own declared.headers c.signature)) c.begins;
+      behind = answered (body_start c.own c.goals c.notes) c.start (start_stays c.own f.quant.count c.goals c.notes (each IsHeader made.sigs number c.own (declared program is_shaped is).headers c.signature)) c.begins;
     }
 
     place : Place (setting_in the f) site (shaped.body_start f) c.start
@@ -334,4 +325,4 @@ module _ (program : ProvedParts) (is_shaped : Shaped (plain_core program.base.co
   functions_typed = λ number f sig columns all there signed live c. function_typed number f sig columns all there signed live c
 
   pub carried_typed : (typed : TypedCode) → Carries program low typed → IsTyped typed
-  carried_typed typed carries = program_typed program is_shaped is declared functions_typed typed carries
+  carried_typed typed carries = program_typed program is_shaped is functions_typed typed carries

@@ -23,8 +23,8 @@ use Rattle.typed_core.specs.Headers.{AreDeclared, few_declarations, table_of, si
 use Rattle.typed_core.specs.Proving.{ProvedParts, IsElaboration}
 use Rattle.typed_core.specs.declared.goal.GoalAt.{GoalAt}
 use Rattle.typed_core.specs.declared.note.Note.{Note}
+use Rattle.typed_core.proofs.NamedPrograms.{declarations_are_closed}
 use Rattle.type_carrier.specs.Carried.{Columns, Functions, Carries, function, no_functions, proofs_of, all_functions, carried}
-use Rattle.carrier_laws.specs.TypedHeaders.{HaveTypedHeaders}
 use Rattle.carrier_laws.proofs.FunctionsCarried.{CarriedAt, function_carried}
 use Rattle.carrier_laws.proofs.ProgramsTyped.{signatures_long, functions_long, same_signatures, lowered_at, carried_long, columns_at}
 
@@ -76,8 +76,7 @@ FunctionsTyped program =
     → (c : CarriedAt (proofs_of program) program.base.made.table program.base.made.sigs program.base.made number f columns all number)
     → IsTypedFun (lowered program.base) (function_of (plain_core program.base.core) f sig) (function (proofs_of program) columns f c.left).states (function (proofs_of program) columns f c.left).now.edges
 
-module _ (program : ProvedParts) (shaped : Shaped (plain_core program.base.core)) (is : IsElaboration program.base.core program.base.made)
-    (declared : AreDeclared program.base.made.table program.base.made.sigs) where
+module _ (program : ProvedParts) (is_shaped : Shaped (plain_core program.base.core)) (is : IsElaboration program.base.core program.base.made) where
   abbrev the : core.Program
   the = plain_core program.base.core
 
@@ -87,13 +86,16 @@ module _ (program : ProvedParts) (shaped : Shaped (plain_core program.base.core)
   abbrev low : Lowered
   low = lowered program.base
 
-  parts : IsMade the made
+  pub parts : IsMade the made
   parts = made_is the made is
+
+  pub declared : AreDeclared made.table made.sigs
+  declared = declarations_are_closed the made.table made.sigs is_shaped parts.types parts.headers
 
   as_many : length made.sigs ≡ length the.funs
   as_many = signatures_long the.funs [] made.sigs parts.headers ∙ omega arith
 
-  sigs_same : map (λ (fun : LowFun). fun.sig) low.funs ≡ made.sigs
+  pub sigs_same : map (λ (fun : LowFun). fun.sig) low.funs ≡ made.sigs
   sigs_same = same_signatures the the.funs made.sigs as_many
 
   headers_at : (fun : LowFun) (k : ℕ) → k < length low.funs → get_or low.funs k fun ≡ fun → IsSetting (setting_of low fun.sig)
@@ -105,17 +107,6 @@ module _ (program : ProvedParts) (shaped : Shaped (plain_core program.base.core)
         own = subst (λ (x : LowFun). IsHeader x.sig) (sym it.is) (subst IsHeader (get_or_from_slice_get made.sigs k it.sig it.sig it.signed) (declared.headers k it.sig (slice_get_within made.sigs k it.sig it.signed)));
       }
 
-  headers_carried : (carries_columns : List Columns) → AllZip AreAllColumns low.funs carries_columns → HaveTypedHeaders (carried program low carries_columns)
-  headers_carried columns live = record {
-    main = (let h = slice_get_within the.funs the.main shaped.main_function shaped.main_number in let long = functions_long the the.funs made.sigs as_many in omega (arith, h, long));
-    headers = λ fun c. headers_at fun c.0 c.1 c.2;
-    states_each = (carried_long the (proofs_of program) AreAllColumns the.funs made.sigs columns (no_functions made.notes) live).states ∙ omega arith;
-    edges_each = (carried_long the (proofs_of program) AreAllColumns the.funs made.sigs columns (no_functions made.notes) live).edges ∙ omega arith;
-  }
-
-  pub headers_typed : (typed : Typed) → Carries program low typed → HaveTypedHeaders typed
-  headers_typed typed carries = subst HaveTypedHeaders (sym carries.is) (headers_carried carries.columns carries.live)
-
   pub program_typed : FunctionsTyped program → (typed : Typed) → Carries program low typed → IsTyped typed
   program_typed each typed carries = subst IsTyped (sym carries.is) whole
     where
@@ -123,15 +114,13 @@ module _ (program : ProvedParts) (shaped : Shaped (plain_core program.base.core)
       all = all_functions program carries.columns
 
       whole : IsTyped (carried program low carries.columns)
-      whole =
-          let h = headers_carried carries.columns carries.live in
-          record {
-            main = h.main;
-            headers = h.headers;
-            states_each = h.states_each;
-            edges_each = h.edges_each;
-            funs = λ number fun labels edges there states_there edges_there. at_number number fun labels edges there states_there edges_there;
-          }
+      whole = record {
+        main = (let h = slice_get_within the.funs the.main is_shaped.main_function is_shaped.main_number in let long = functions_long the the.funs made.sigs as_many in omega (arith, h, long));
+        headers = λ fun c. headers_at fun c.0 c.1 c.2;
+        states_each = (carried_long the (proofs_of program) AreAllColumns the.funs made.sigs carries.columns (no_functions made.notes) carries.live).states ∙ omega arith;
+        edges_each = (carried_long the (proofs_of program) AreAllColumns the.funs made.sigs carries.columns (no_functions made.notes) carries.live).edges ∙ omega arith;
+        funs = λ number fun labels edges there states_there edges_there. at_number number fun labels edges there states_there edges_there;
+      }
         where
           at_number : (number : ℕ) (fun : LowFun) (labels : List StateType) (edges : List Edge) → slice_get low.funs number ≡ Some fun → slice_get all.states number ≡ Some labels
               → slice_get all.edges number ≡ Some edges → IsTypedFun low fun labels edges
