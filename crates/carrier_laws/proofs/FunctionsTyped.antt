@@ -1,5 +1,5 @@
 -- Each function of a carried program is typed.
-use Rattle.std.proofs.Common.{◌≡◌, ◌∙◌, ℕ, zero, suc, ◌+◌, ◌<◌, ◌≤◌, ◌==◌, ◌⊎◌, inl, inr, cond, Bool as Truth, true, false, List, [], ◌∷◌, ◌++◌, length, map, take, slice_get, Option, Some, None, Ok, refl, sym, ap, ap₂, subst, arith, append_assoc, append-nil}
+use Rattle.std.proofs.Common.{◌≡◌, ◌∙◌, ℕ, zero, suc, ◌+◌, ◌<◌, ◌≤◌, ◌==◌, ◌⊎◌, inl, inr, cond, Bool as Truth, true, false, List, [], ◌∷◌, ◌++◌, length, map, take, slice_get, Option, Some, refl, sym, ap, ap₂, subst, arith, append_assoc, append-nil}
 use Rattle.std.specs.List.{All, AllByRecursion, AllZip, enumerate_from}
 use Rattle.std.proofs.lemmas.Bool.Decides.{Decides-eqb}
 use Rattle.std.proofs.lemmas.List.{append_cancel_right, length-map}
@@ -8,8 +8,7 @@ use Rattle.std.proofs.lemmas.Option.{same_Some}
 use Rattle.lowering.specs.CodeBlocks.{Spaced, InBlocks}
 use Rattle.lowering.specs.Frames.{frame_of}
 use Rattle.lowering.specs.Lowered.{leads, renumbered, places_reach, code_reach, labels_of, code_of, function_of, lowered}
-use Rattle.lowering.specs.StatementCode.{block_code, block_labels, block_size}
-use Rattle.lowering.proofs.CodeSizes.{block_long}
+use Rattle.lowering.specs.StatementCode.{block_labels}
 use Rattle.lowering.proofs.KindsFound.{number_is_found}
 use Rattle.lowering.proofs.LoweredFunctions.{places_counted, in_blocks}
 use Rattle.lowering.proofs.NumbersFound.{numbered_at}
@@ -34,16 +33,13 @@ use Rattle.xanadu_tree.specs.Plain as core
 use Rattle.xanadu_tree.specs.PlainOf.{plain_core}
 use Rattle.xanadu_tree.specs.Shaped.{Shaped}
 use Rattle.xanadu_tree.specs.Shaped as shaped
-use Rattle.typed_core.specs.Constructs as elaborated
 use Rattle.typed_core.specs.Goals.{Elaboration, body_start}
-use Rattle.typed_core.specs.Headers.{AreDeclared}
 use Rattle.typed_core.specs.Proving.{ProvedParts, IsElaboration, ProveAll}
 use Rattle.typed_core.specs.States.{Site, State}
 use Rattle.typed_core.specs.Statements.{block}
-use Rattle.typed_core.specs.declared.note.Note.{Note}
 use Rattle.typed_core.proofs.Continued.{no_more}
 use Rattle.typed_core.proofs.FitPrograms.{IsSignedOf, start_fits}
-use Rattle.typed_core.proofs.NamedPrograms.{declarations_are_closed, each, start_stays}
+use Rattle.typed_core.proofs.NamedPrograms.{each, start_stays}
 use Rattle.typed_core.proofs.NamedStates.{answered}
 use Rattle.source_safety.specs.Recorded.{site_of}
 use Rattle.source_safety.proofs.BodiesStart.{setting_in, IsBody, body_of}
@@ -51,21 +47,19 @@ use Rattle.source_safety.proofs.EntryFits.{IsExact, signature_is, signature_at}
 use Rattle.source_safety.proofs.PlacesKnown.{IsAt}
 use Rattle.type_carrier.specs.Carried.{Carries, Columns, Functions, function, proofs_of, body_begins}
 use Rattle.type_carrier.specs.CarriedTests.{Labelled, Sources}
-use Rattle.type_carrier.specs.Ways.{label_state}
 use Rattle.carrier_laws.proofs.BlocksTyped.{block_typed}
 use Rattle.carrier_laws.proofs.BodiesTyped.{edges_long, states_long, get_last, allowed, again}
-use Rattle.carrier_laws.proofs.ChainsTyped.{Body, Chain, Done, Next, placed, CodeAt}
-use Rattle.carrier_laws.proofs.FragmentsTyped.{sources_of, HasLabels, Coming, AllAhead, Begins, LabelStands, Passes, Typed}
+use Rattle.carrier_laws.proofs.ChainsTyped.{Body, Chain, Done, Next, CodeAt}
+use Rattle.carrier_laws.proofs.FragmentsTyped.{HasLabels, AllAhead, Begins, LabelStands, Passes, Typed}
 use Rattle.carrier_laws.proofs.FunctionsCarried.{CarriedAt}
 use Rattle.carrier_laws.proofs.GroundsFound.{grounds_found}
 use Rattle.carrier_laws.proofs.NotedStates.{IsNoted, noted_is_label}
-use Rattle.carrier_laws.proofs.NotesNoted.{IsWell, AreWell, none_made, block_well}
+use Rattle.carrier_laws.proofs.NotesNoted.{none_made, block_well}
 use Rattle.carrier_laws.proofs.OperandsRun.{Walk, IsWalk, Here, Within, same_behind}
 use Rattle.carrier_laws.proofs.PlacesKept.{Grounds, Place}
-use Rattle.carrier_laws.proofs.ProgramsTyped.{signatures_long, same_signatures}
-use Rattle.carrier_laws.proofs.StartsFound.{IsStart, start_is, start_place, start_vars, starts}
+use Rattle.carrier_laws.proofs.StartsFound.{start_is, start_place, start_vars, starts}
 use Rattle.carrier_laws.proofs.StatementsTaken.{block_taken}
-use Rattle.carrier_laws.proofs.StatesTaken.{OfState, IsCut, Makes, block_made}
+use Rattle.carrier_laws.proofs.StatesTaken.{OfState, IsCut, block_made}
 use Rattle.carrier_laws.proofs.WholeTyped.{FunctionsTyped, parts, declared, sigs_same, program_typed}
 
 -- ---- places of instructions

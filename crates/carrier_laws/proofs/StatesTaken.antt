@@ -1,11 +1,10 @@
 -- The states that carrying makes for labels are those of the notes that it takes, whatever was elaborated.
-use Rattle.std.proofs.Common.{◌≡◌, ◌∙◌, ℕ, suc, Bool as Truth, true, false, not, List, [], ◌∷◌, ◌++◌, length, Option, Some, None, refl, sym, ap, subst, append_assoc, append-nil}
+use Rattle.std.proofs.Common.{◌≡◌, ◌∙◌, ℕ, suc, Bool as Truth, true, false, not, List, [], ◌∷◌, ◌++◌, length, Option, Some, None, refl, sym, ap, append_assoc, append-nil}
 use Rattle.std.specs.List.{AllByRecursion}
 use Rattle.lowering.specs.TestCode.{turn, inner_on}
 use Rattle.state_types.specs.declared.state.StateType.{StateType}
 use Rattle.three_address.specs.declared.typed.Edge.{Edge}
 use Rattle.xanadu_tree.specs.BodyRules.{completes_all}
-use Rattle.xanadu_tree.specs.declared.expr.Op.{Op}
 use Rattle.xanadu_tree.specs.declared.stmt.Clause.{Clause}
 use Rattle.xanadu_tree.specs.Plain as core
 use Rattle.typed_core.specs.Joins.{stated}
