@@ -1,0 +1,16 @@
+pub mod CarriedKept
+pub mod TextedStates
+pub mod TextedNotes
+pub mod TextedBlocks
+pub mod ProgramTexted
+pub mod TextedEdges
+pub mod LinesWritten
+pub mod InstructionNumbers
+pub mod NumbersWritten
+pub mod FewEmitted
+pub mod CodeRanged
+pub mod LabelsRanged
+pub mod FunctionsRanged
+pub mod ProgramRanged
+pub mod CarriedAccepted
+pub mod ReadNumbers

@@ -1,0 +1,3 @@
+pub mod WordedCores
+pub mod WrittenParts
+pub mod SlottedCarried

@@ -1,0 +1,9 @@
+pub mod AgreedPrograms
+pub mod BuiltFunctions
+pub mod EmittedCounts
+pub mod CountedPrograms
+pub mod SlotsMade
+pub mod LoweredPlaces
+pub mod KeptPromises
+pub mod SmallRuns
+pub mod GrantedParts
