@@ -10,6 +10,7 @@ use Rattle.typed_core.specs.Limits.{most}
 use Rattle.linear_solver.specs.declared.answer.Answer.{Answer as Found}
 use Rattle.linear_solver.specs.declared.answer.Answer.TheVariants as found
 use Rattle.command_reports.specs.declared.answer.Answer.{Answer}
+use Rattle.command_reports.specs.declared.answer.Counts.{Counts}
 use Rattle.command_reports.specs.declared.answer.Answer.TheVariants.{Built, NoCommand, ReadFailed, WriteFailed, Memory, Refused}
 use Rattle.command_reports.specs.declared.refusal.Refusal.{Refusal}
 use Rattle.command_reports.specs.declared.refusal.Refusal.TheVariants as refusal
@@ -30,7 +31,6 @@ refusal_status (refusal.Parse _) = 8
 refusal_status (refusal.Shape _ _) = 9
 refusal_status (refusal.Past _) = 5
 refusal_status (refusal.Goal _ _ _ answer) = found_status answer
-refusal_status refusal.NotBuilt = 20
 
 abbrev pub status_of : Answer → ℕ
 status_of (Built _) = 0
@@ -101,13 +101,14 @@ refusal_line (refusal.Parse at) = numbered_line (codes "parse: at ") at
 refusal_line (refusal.Shape kind at) = shape_line kind at
 refusal_line (refusal.Past kind) = limit_line kind
 refusal_line (refusal.Goal number at row answer) = failure_line number at row answer
-refusal_line refusal.NotBuilt = codes "not built yet\n"
 
-abbrev pub built_line : ℕ → List ℕ
-built_line instructions = codes "built: 1 functions, 0 goals, " ++ decimal instructions ++ codes " instructions\n"
+abbrev pub built_line : Counts → List ℕ
+built_line counts =
+    (numbered (codes "built: ") counts.functions ++ numbered (codes " functions, ") counts.goals)
+    ++ (numbered (codes " goals, ") counts.instructions ++ codes " instructions\n")
 
 abbrev pub line_of : Answer → List ℕ
-line_of (Built instructions) = built_line instructions
+line_of (Built counts) = built_line counts
 line_of NoCommand = codes "words: not a command\n"
 line_of ReadFailed = codes "read: failed\n"
 line_of WriteFailed = codes "write: failed\n"

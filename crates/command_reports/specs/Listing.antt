@@ -1,5 +1,5 @@
 -- The goals of a source that are to be listed, and the room that it takes to answer them.
-use Rattle.std.specs.Prelude.{◌≡◌, ◌+◌, ◌≤◌, ℕ, List, length, Result, Ok, Err}
+use Rattle.std.specs.Prelude.{◌≡◌, ◌+◌, ◌≤◌, length, Result, Ok, Err}
 use Rattle.xan_pool.specs.Pool.{Pool}
 use Rattle.command_reports.specs.declared.answer.Answer.{Answer}
 use Rattle.command_reports.specs.declared.listing.Listing.{Listing}

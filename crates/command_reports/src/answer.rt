@@ -5,6 +5,17 @@ ghost use Rattle.command_reports.specs.Answers.{status_of};
 
 use crate::refusal::Refusal;
 
+/// How much of a source there is, and of the program that it becomes.
+#[derive(Clone, Copy, Drop)]
+pub struct Counts {
+    /// How many functions it has.
+    pub functions: u64,
+    /// How many goals it has.
+    pub goals: u64,
+    /// How many instructions its program has.
+    pub instructions: u64,
+}
+
 /// How a command came out that says one line, in the order in which it may end.
 #[derive(Drop)]
 pub enum Answer {
@@ -18,8 +29,8 @@ pub enum Answer {
     Memory,
     /// The text could not be written.
     WriteFailed,
-    /// The text of a function without goals, of so many instructions, is written.
-    Built(u32),
+    /// The text of a program is written, of so many functions, goals and instructions.
+    Built(Counts),
 }
 
 impl Answer {

@@ -14,7 +14,7 @@ mod refusal;
 mod words;
 mod workspace;
 
-pub use crate::answer::Answer;
+pub use crate::answer::{Answer, Counts};
 pub use crate::limits::most;
 pub use crate::lines::say;
 pub use crate::listing::{Listing, list};

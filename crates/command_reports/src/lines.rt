@@ -9,7 +9,7 @@ ghost use Rattle.command_reports.specs.Report.{Answered, report_of};
 ghost use Rattle.command_reports.specs.Said.{Says};
 ghost use Rattle.command_reports.specs.Answers.{numbered};
 
-use crate::answer::Answer;
+use crate::answer::{Answer, Counts};
 use crate::goal_lines::{Line, line_of_goal, push_limit};
 use crate::refusal::Refusal;
 use arrayvec::ArrayString;
@@ -44,17 +44,30 @@ fn line_of(answer: &Answer) -> Line
     ensures { result.bytes ≡ spec.line_of answer.now }
 {
     match answer {
-        Answer::Built(instructions) => line_of_number(
-            "built: 1 functions, 0 goals, ",
-            *instructions,
-            " instructions\n",
-        ),
+        Answer::Built(counts) => line_of_counts(*counts),
         Answer::NoCommand => line_of_word("words: not a command\n"),
         Answer::ReadFailed => line_of_word("read: failed\n"),
         Answer::WriteFailed => line_of_word("write: failed\n"),
         Answer::Memory => line_of_word("memory\n"),
         Answer::Refused(refusal) => line_of_refusal(refusal),
     }
+}
+
+/// The line of a text that is written.
+#[tactic(auto, using(crate::proofs::LinePieces::pieces))]
+fn line_of_counts(counts: Counts) -> Line
+    ensures { result.bytes ≡ spec.built_line counts }
+{
+    let mut line = ArrayString::new();
+    push_numbered(&mut line, "built: ", counts.functions);
+    push_numbered(&mut line, " functions, ", counts.goals);
+    push_between(
+        &mut line,
+        " goals, ",
+        counts.instructions,
+        " instructions\n",
+    );
+    line
 }
 
 /// The line of a refusal.
@@ -64,11 +77,15 @@ fn line_of_refusal(refusal: &Refusal) -> Line
     match refusal {
         Refusal::Length => line_of_limit(LimitKind::Length),
         Refusal::Nesting => line_of_limit(LimitKind::Nesting),
-        Refusal::Bytes(at) => line_of_number("bytes: at ", *at, "\n"),
-        Refusal::Parse(at) => line_of_number("parse: at ", *at, "\n"),
-        Refusal::Shape(kind, at) => {
-            line_of_numbers("shape ", u32::from(kind.number()), ": at ", *at, "\n")
-        }
+        Refusal::Bytes(at) => line_of_number("bytes: at ", u64::from(*at), "\n"),
+        Refusal::Parse(at) => line_of_number("parse: at ", u64::from(*at), "\n"),
+        Refusal::Shape(kind, at) => line_of_numbers(
+            "shape ",
+            u64::from(kind.number()),
+            ": at ",
+            u64::from(*at),
+            "\n",
+        ),
         Refusal::Past(kind) => line_of_limit(*kind),
         Refusal::Goal {
             number,
@@ -76,7 +93,6 @@ fn line_of_refusal(refusal: &Refusal) -> Line
             row,
             answer,
         } => line_of_failure(*number, *at, row, *answer),
-        Refusal::NotBuilt => line_of_word("not built yet\n"),
     }
 }
 
@@ -110,7 +126,7 @@ fn line_of_word(word: &str) -> Line
 }
 
 /// A word, a number and another word.
-fn line_of_number(word: &str, number: u32, more: &str) -> Line
+fn line_of_number(word: &str, number: u64, more: &str) -> Line
     requires word { length word.now ≤ 30 }
     requires more { length more.now ≤ 30 }
     ensures { result.bytes ≡ numbered word.now number ++ more.now }
@@ -122,7 +138,7 @@ fn line_of_number(word: &str, number: u32, more: &str) -> Line
 }
 
 /// A word and a number, another word and its number, and a last word.
-fn line_of_numbers(word: &str, number: u32, middle: &str, at: u32, more: &str) -> Line
+fn line_of_numbers(word: &str, number: u64, middle: &str, at: u64, more: &str) -> Line
     requires word { length word.now ≤ 30 }
     requires middle { length middle.now ≤ 30 }
     requires more { length more.now ≤ 30 }
@@ -136,8 +152,8 @@ fn line_of_numbers(word: &str, number: u32, middle: &str, at: u32, more: &str) -
 
 /// Adds a word, a number and another word.
 #[tactic(auto, using(crate::proofs::LinePieces::pieces))]
-fn push_between(line: &mut Line, word: &str, number: u32, more: &str)
-    requires line { length line.old.bytes ≤ 70 }
+fn push_between(line: &mut Line, word: &str, number: u64, more: &str)
+    requires line { length line.old.bytes ≤ 140 }
     requires word { length word.now ≤ 30 }
     requires more { length more.now ≤ 30 }
     ensures { line.new.bytes ≡ line.old.bytes ++ (numbered word.now number ++ more.now) }
@@ -148,8 +164,8 @@ fn push_between(line: &mut Line, word: &str, number: u32, more: &str)
 
 /// Adds a word and a number behind it.
 #[tactic(auto, using(crate::proofs::LinePieces::pieces))]
-fn push_numbered(line: &mut Line, word: &str, number: u32)
-    requires line { length line.old.bytes ≤ 70 }
+fn push_numbered(line: &mut Line, word: &str, number: u64)
+    requires line { length line.old.bytes ≤ 140 }
     requires word { length word.now ≤ 30 }
     ensures bytes { line.new.bytes ≡ line.old.bytes ++ numbered word.now number }
     ensures short { length line.new.bytes ≤ length line.old.bytes + 70 }

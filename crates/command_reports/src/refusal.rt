@@ -41,8 +41,6 @@ pub enum Refusal {
         /// What the elimination answers.
         answer: Answer,
     },
-    /// Its goals are proved, and it is of a form that is not built yet.
-    NotBuilt,
 }
 
 impl Refusal {
@@ -56,7 +54,6 @@ impl Refusal {
             Refusal::Parse(_) => 8,
             Refusal::Shape(_, _) => 9,
             Refusal::Goal { answer, .. } => status_of_goal(*answer),
-            Refusal::NotBuilt => 20,
         }
     }
 }
@@ -151,6 +148,14 @@ impl From<Memory> for SourceError {
     ghost from_gives = { λ _ stop. stop ≡ memory };
 
     fn from(_error: Memory) -> SourceError {
+        SourceError::Memory
+    }
+}
+
+impl From<xan_lin::Memory> for SourceError {
+    ghost from_gives = { λ _ stop. stop ≡ memory };
+
+    fn from(_error: xan_lin::Memory) -> SourceError {
         SourceError::Memory
     }
 }

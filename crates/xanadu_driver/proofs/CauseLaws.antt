@@ -3,22 +3,22 @@ use Rattle.std.proofs.Common.{◌≡◌, ◌≢◌, ℕ, Bool, true, false, List
 use Rattle.std.specs.Str.{bytes_eq}
 use Rattle.std.proofs.lemmas.Slice.Eq.{bytes_eq-Decides}
 use Rattle.xan_io.specs.Faults.{Rose}
-use Rattle.dtal_code.specs.declared.straight.Straight.{Straight}
 use Rattle.typed_core.specs.declared.goal.GoalAt.{GoalAt}
 use Rattle.command_reports.specs.declared.answer.Answer.{Answer}
 use Rattle.command_reports.specs.declared.answer.Answer.TheVariants.{Built, NoCommand, ReadFailed, WriteFailed, Memory, Refused}
+use Rattle.command_reports.specs.declared.answer.Counts.{Counts}
 use Rattle.command_reports.specs.declared.refusal.Refusal.{Refusal}
 use Rattle.command_reports.specs.declared.refusal.SourceError.{SourceError}
 use Rattle.command_reports.specs.declared.refusal.SourceError.TheVariants as error
 use Rattle.command_reports.specs.Answers.{Keeps}
 use Rattle.xanadu_driver.specs.Causes.{Unchanged, BuildCauses, GoalsCauses, Causes, Went, NothingFailed}
 use Rattle.command_reports.specs.Said.{SaidAll, IsReported}
-use Rattle.xanadu_driver.specs.Correct.{Wrote, Cut}
+use Rattle.xanadu_driver.specs.Correct.{Wrote, Cut, Translates}
 use Rattle.xanadu_driver.specs.Fate.{fate, goals_of}
 use Rattle.command_reports.specs.Outside.{Held, Outside}
 use Rattle.command_reports.specs.Report.{Report, Found, Answered, Listed, report_of}
 use Rattle.xanadu_driver.specs.Reported.{built, listed, report}
-use Rattle.xanadu_driver.specs.Source.{IsRefused}
+use Rattle.xanadu_driver.specs.Source.{HasFate, IsRefused}
 use Rattle.command_reports.specs.Words.{Meant, Build, Goals}
 use Rattle.xanadu_driver.proofs.FateLaws.{fate_is, goals_are, goals_refused}
 
@@ -42,8 +42,8 @@ pub build_causes : (source target : List ℕ) (before after : Held) (answer : An
     → ((refusal : Refusal) → answer ≡ Refused refusal → (told : List ℕ) → before.content source ≡ Some told → IsRefused told refusal)
     → (Keeps answer → after.content target ≡ before.content target)
     → (answer ≡ WriteFailed → (told : List ℕ) → before.content source ≡ Some told → Cut told (before.content target) (after.content target))
-    → ((instructions : ℕ) → answer ≡ Built instructions → (told : List ℕ) → before.content source ≡ Some told
-    → Wrote told instructions (before.content target) (after.content target))
+    → ((counts : Counts) → answer ≡ Built counts → (told : List ℕ) → before.content source ≡ Some told
+    → Wrote told counts (before.content target) (after.content target))
     → BuildCauses source target before after answer
 build_causes source target before after NoCommand command others read write refused kept cut built = absurd (command refl)
 build_causes source target before after ReadFailed command others read write refused kept cut built =
@@ -83,19 +83,19 @@ found_report of content found r is finds =
     let t = told_of of content r is in
     sym (finds t.0 t.1) ∙ same_report (of t.0) r (sym (ap (option_map of) t.1) ∙ is)
 
+built_fate : (source : List ℕ) (counts : Counts) {text : List ℕ} → Translates source text counts → HasFate source (Ok counts)
+built_fate source counts is = record { core = is.core; made = is.made; has = is.proved; counted = is.is.counted }
+
 -- what depends on the words and the source alone is that of the report
 build_report : (source target : List ℕ) (before after : Held) (answer : Answer) (r : Report) → BuildCauses source target before after answer
     → IsOf (Answered answer) → option_map of_build (before.content source) ≡ Some r → report_of (Answered answer) ≡ r
 build_report source target before after NoCommand r cause of is = absurd cause
 build_report source target before after (Refused refusal) r cause of is =
     found_report of_build (before.content source) (Answered (Refused refusal)) r is
-    (λ told here. ap (λ (f : Result Straight SourceError). report_of (built f)) (fate_is told (Err (error.Refused refusal)) (cause.refused told here)))
-build_report source target before after (Built n) r cause of is =
-    found_report of_build (before.content source) (Answered (Built n)) r is
-    (λ told here.
-    let wrote = cause.wrote told here in
-    ap (λ (f : Result Straight SourceError). report_of (built f)) (fate_is told (Ok wrote.translates.program) wrote.translates.code)
-    ∙ ap (λ (m : ℕ). report_of (Answered (Built m))) (sym wrote.translates.counted))
+    (λ told here. ap (λ (f : Result Counts SourceError). report_of (built f)) (fate_is told (Err (error.Refused refusal)) (cause.refused told here)))
+build_report source target before after (Built counts) r cause of is =
+    found_report of_build (before.content source) (Answered (Built counts)) r is
+    (λ told here. ap (λ (f : Result Counts SourceError). report_of (built f)) (fate_is told (Ok counts) (built_fate told counts (cause.wrote told here).translates)))
 build_report source target before after ReadFailed r cause of is = absurd of
 build_report source target before after WriteFailed r cause of is = absurd of
 build_report source target before after Memory r cause of is = absurd of

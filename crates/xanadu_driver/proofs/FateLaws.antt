@@ -1,8 +1,6 @@
 -- A source has a fate, and one alone; and its goals are those that are computed.
-use Rattle.std.proofs.Common.{◌≡◌, ℕ, Bool, true, false, cond, List, length, Option, Some, None, Result, Ok, Err, refl, sym, ap, ◌∙◌, subst}
-use Rattle.std.proofs.lemmas.List.FromFn.{length-map-range_with_len}
+use Rattle.std.proofs.Common.{◌≡◌, ℕ, List, length, Option, Some, None, Result, Ok, Err, refl, sym, ap, ◌∙◌, subst}
 use Rattle.xan_seq.specs.Answers.{◌>>=◌}
-use Rattle.dtal_code.specs.declared.straight.Straight.{Straight}
 use Rattle.goal_table.specs.Unproved.{Failure, first_unproved}
 use Rattle.typed_core.specs.Goals.{Elaboration, elaborated}
 use Rattle.typed_core.specs.Limits.{Walk, Past, Misfit, Stray}
@@ -11,47 +9,16 @@ use Rattle.typed_core.proofs.FitPrograms.{shaped_fits}
 use Rattle.typed_core.proofs.NamedPrograms.{never_strays}
 use Rattle.xanadu_tree.specs.Plain as plain
 use Rattle.xanadu_tree.specs.Shaped.{Shaped}
-use Rattle.xanadu_tree.specs.Small.{IsSmall, int_of, number_program}
 use Rattle.scope_shapes.proofs.ShapedPrograms.{shape_is_shaped}
+use Rattle.command_reports.specs.declared.answer.Counts.{Counts}
 use Rattle.command_reports.specs.declared.refusal.Refusal.{Refusal}
 use Rattle.command_reports.specs.declared.refusal.Refusal.TheVariants as refusal
 use Rattle.command_reports.specs.declared.refusal.SourceError.{SourceError}
 use Rattle.command_reports.specs.declared.refusal.SourceError.TheVariants as error
-use Rattle.xanadu_driver.specs.Fate.{Checked, checked_with, core_of, checked_of, goals_of, fate, or_stop, of_walk, none_fails, other_form, lowered_functions, lowered}
-use Rattle.xanadu_driver.specs.Forms.{is_small}
-use Rattle.xanadu_driver.specs.Lowering.{straight_of}
-use Rattle.xanadu_driver.specs.Source.{IsCore, IsElaborated, IsProved, HasGoals, HasFate, IsRefused, IsEarly}
+use Rattle.xanadu_driver.specs.Fate.{Checked, checked_with, core_of, checked_of, goals_of, fate, or_stop, of_walk, none_fails}
+use Rattle.xanadu_driver.specs.Source.{IsCore, IsElaborated, HasGoals, HasFate, IsRefused, IsEarly, counts_of}
 use Rattle.xanadu_driver.proofs.CoreFates.{HasCoreFate, has_core_fate, core_is}
 use Rattle.xanadu_driver.proofs.Fates.{HasNoCore, tree_is_written}
-use Rattle.xanadu_driver.proofs.SmallCores.{passed_is_small, small_passes}
-
--- ---- code
-
--- the code of a small core is that of its sum
-lowered_sum : (core : plain.Program) (small : IsSmall core) → lowered_functions core.funs ≡ Ok (straight_of small.count small.value)
-lowered_sum core small =
-    let sum : lowered_functions (number_program small.count small.value small.return_at small.at).funs ≡ Ok (straight_of small.count small.value) =
-    ap (λ (count : ℕ). Ok (straight_of count small.value)) (length-map-range_with_len int_of 0 small.count) in
-    ap (λ (c : plain.Program). lowered_functions c.funs) small.is ∙ sum
-
-passed_lowers : (core : plain.Program) (passes : Bool) → passes ≡ true → cond passes (lowered_functions core.funs) other_form ≡ lowered_functions core.funs
-passed_lowers core true e = refl
-passed_lowers core false e = absurd cc
-
-lowered_small : (core : plain.Program) (small : IsSmall core) → lowered core ≡ Ok (straight_of small.count small.value)
-lowered_small core small = passed_lowers core (is_small core) (small_passes core small) ∙ lowered_sum core small
-
-never : (passes : Bool) → passes ≡ false → passes ≡ true → ⊥
-never true e f = cc
-never false e f = cc
-
--- a core that is not small has none
-lowered_other : (core : plain.Program) → (IsSmall core → ⊥) → lowered core ≡ other_form
-lowered_other core other = by_test (is_small core) refl
-  where
-    by_test : (passes : Bool) → is_small core ≡ passes → cond passes (lowered_functions core.funs) other_form ≡ other_form
-    by_test true e = absurd (other (passed_is_small core e))
-    by_test false e = refl
 
 -- ---- the goals
 
@@ -79,7 +46,6 @@ checked_past bytes (refusal.Parse at) x early = checked_same bytes ∙ ap checke
 checked_past bytes (refusal.Shape kind at) x early = checked_same bytes ∙ ap checked_by (core_is bytes (Err (error.Refused (refusal.Shape kind at))) x)
 checked_past bytes (refusal.Past kind) x early = checked_core bytes x.core x.has ∙ ap (made_of x.core) x.past
 checked_past bytes (refusal.Goal number at row answer) x early = absurd early
-checked_past bytes refusal.NotBuilt x early = absurd early
 
 abbrev listed_by : Result Checked SourceError → Result (List GoalAt) SourceError
 listed_by checked = checked >>= λ checked. Ok checked.made.goals
@@ -92,26 +58,25 @@ goals_refused bytes r x early = ap listed_by (checked_past bytes r x early)
 
 -- ---- a fate is no other
 
-abbrev behind_goals : plain.Program → Option Failure → Result Straight SourceError
-behind_goals core found = none_fails found >>= λ proved. lowered core
+abbrev behind_goals : plain.Program → Elaboration → Option Failure → Result Counts SourceError
+behind_goals core made found = none_fails found >>= λ proved. Ok (counts_of core made)
 
-abbrev fate_by : Result Checked SourceError → Result Straight SourceError
-fate_by checked = checked >>= λ checked. behind_goals checked.core (first_unproved checked.made.goals)
+abbrev fate_by : Result Checked SourceError → Result Counts SourceError
+fate_by checked = checked >>= λ checked. behind_goals checked.core checked.made (first_unproved checked.made.goals)
 
 fate_same : (bytes : List ℕ) → fate bytes ≡ fate_by (checked_of bytes)
 unfolding fate
 fate_same bytes = refl
 
 fate_behind : (bytes : List ℕ) (core : plain.Program) (made : Elaboration) (found : Option Failure) → IsElaborated bytes core made
-    → first_unproved made.goals ≡ found → fate bytes ≡ behind_goals core found
-fate_behind bytes core made found has is = fate_same bytes ∙ ap fate_by (checked_is bytes core made has) ∙ ap (behind_goals core) is
+    → first_unproved made.goals ≡ found → fate bytes ≡ behind_goals core made found
+fate_behind bytes core made found has is = fate_same bytes ∙ ap fate_by (checked_is bytes core made has) ∙ ap (behind_goals core made) is
 
 fate_early : (bytes : List ℕ) (r : Refusal) → IsRefused bytes r → IsEarly r → fate bytes ≡ Err (error.Refused r)
 fate_early bytes r x early = fate_same bytes ∙ ap fate_by (checked_past bytes r x early)
 
 fate_refused : (bytes : List ℕ) (r : Refusal) → IsRefused bytes r → fate bytes ≡ Err (error.Refused r)
 fate_refused bytes (refusal.Goal number at row answer) x = fate_behind bytes x.core x.made _ x.has x.first
-fate_refused bytes refusal.NotBuilt x = fate_behind bytes x.core x.has.made None x.has.has x.has.proved ∙ lowered_other x.core x.other
 fate_refused bytes refusal.Length x = fate_early bytes refusal.Length x tt
 fate_refused bytes (refusal.Bytes at) x = fate_early bytes (refusal.Bytes at) x tt
 fate_refused bytes refusal.Nesting x = fate_early bytes refusal.Nesting x tt
@@ -119,13 +84,12 @@ fate_refused bytes (refusal.Parse at) x = fate_early bytes (refusal.Parse at) x 
 fate_refused bytes (refusal.Shape kind at) x = fate_early bytes (refusal.Shape kind at) x tt
 fate_refused bytes (refusal.Past kind) x = fate_early bytes (refusal.Past kind) x tt
 
-pub fate_is : (bytes : List ℕ) (other : Result Straight SourceError) → HasFate bytes other → fate bytes ≡ other
-fate_is bytes (Ok program) x =
-    fate_behind bytes x.core x.has.made None x.has.has x.has.proved ∙ lowered_small x.core x.small ∙ ap (λ (p : Straight). Ok p) (sym x.lowered)
+pub fate_is : (bytes : List ℕ) (other : Result Counts SourceError) → HasFate bytes other → fate bytes ≡ other
+fate_is bytes (Ok counts) x = fate_behind bytes x.core x.made None x.has.has x.has.proved ∙ ap (λ (c : Counts). Ok c) (sym x.counted)
 fate_is bytes (Err (error.Refused r)) x = fate_refused bytes r x
 fate_is bytes (Err error.Memory) x = absurd x
 
-pub one_fate : (bytes : List ℕ) (a b : Result Straight SourceError) → HasFate bytes a → HasFate bytes b → a ≡ b
+pub one_fate : (bytes : List ℕ) (a b : Result Counts SourceError) → HasFate bytes a → HasFate bytes b → a ≡ b
 one_fate bytes a b x y = sym (fate_is bytes a x) ∙ fate_is bytes b y
 
 -- ---- every source has a fate
@@ -134,16 +98,9 @@ module _ (bytes : List ℕ) where
   core_is_shaped : (core : plain.Program) → IsCore bytes core → Shaped core
   core_is_shaped core has = shape_is_shaped has.written (length bytes) core (tree_is_written bytes has.written has.has) has.shaped
 
-  form_fate : (core : plain.Program) → IsProved bytes core → (passes : Bool) → is_small core ≡ passes
-      → HasFate bytes (cond passes (lowered_functions core.funs) other_form)
-  form_fate core has true e =
-      let small = passed_is_small core e in
-      subst (HasFate bytes) (sym (lowered_sum core small)) (record { core = core; has = has; small = small; lowered = refl })
-  form_fate core has false e = record { core = core; has = has; other = λ small. never (is_small core) e (small_passes core small) }
-
   goals_fate : (core : plain.Program) (made : Elaboration) → IsElaborated bytes core made → (found : Option Failure) → first_unproved made.goals ≡ found
-      → HasFate bytes (behind_goals core found)
-  goals_fate core made has None e = form_fate core (record { made = made; has = has; proved = e }) (is_small core) refl
+      → HasFate bytes (behind_goals core made found)
+  goals_fate core made has None e = record { core = core; made = made; has = record { has = has; proved = e }; counted = refl }
   goals_fate core made has (Some failure) e = record { core = core; made = made; has = has; first = e }
 
   walk_fate : (core : plain.Program) → IsCore bytes core → (walked : Walk Elaboration) → elaborated core ≡ walked
@@ -161,7 +118,6 @@ module _ (bytes : List ℕ) where
   refused_fate (refusal.Shape kind at) x = x
   refused_fate (refusal.Past kind) x = absurd x
   refused_fate (refusal.Goal number at row answer) x = absurd x
-  refused_fate refusal.NotBuilt x = absurd x
 
   core_fate : (core : Result plain.Program SourceError) → HasCoreFate bytes core → HasFate bytes (fate_by (checked_by core))
   core_fate (Ok core) has = walk_fate core has (elaborated core) refl

@@ -163,7 +163,6 @@ module _ (bytes : List ℕ) where
   one_refusal refusal.Length (refusal.Shape kind' at') x y = absurd (too_long x (y.has.has.short))
   one_refusal refusal.Length (refusal.Past kind') x y = absurd y
   one_refusal refusal.Length (refusal.Goal number' at' row' answer') x y = absurd y
-  one_refusal refusal.Length refusal.NotBuilt x y = absurd y
   one_refusal (refusal.Bytes at) refusal.Length x y = absurd (too_long y (x.short))
   one_refusal (refusal.Bytes at) (refusal.Bytes at') x y = ap refusal.Bytes (same_fault at at' x.kind y.kind (sym x.fault ∙ y.fault))
   one_refusal (refusal.Bytes at) refusal.Nesting x y = absurd (no_tokens bytes at y.tokens x y.has)
@@ -171,7 +170,6 @@ module _ (bytes : List ℕ) where
   one_refusal (refusal.Bytes at) (refusal.Shape kind' at') x y = absurd (no_tokens bytes at y.has.tokens x y.has.has)
   one_refusal (refusal.Bytes at) (refusal.Past kind') x y = absurd y
   one_refusal (refusal.Bytes at) (refusal.Goal number' at' row' answer') x y = absurd y
-  one_refusal (refusal.Bytes at) refusal.NotBuilt x y = absurd y
   one_refusal refusal.Nesting refusal.Length x y = absurd (too_long y (x.has.short))
   one_refusal refusal.Nesting (refusal.Bytes at') x y = absurd (no_tokens bytes at' x.tokens y x.has)
   one_refusal refusal.Nesting refusal.Nesting x y = refl
@@ -179,7 +177,6 @@ module _ (bytes : List ℕ) where
   one_refusal refusal.Nesting (refusal.Shape kind' at') x y = absurd (not_nested x y.has.tokens y.has.has y.has.shallow)
   one_refusal refusal.Nesting (refusal.Past kind') x y = absurd y
   one_refusal refusal.Nesting (refusal.Goal number' at' row' answer') x y = absurd y
-  one_refusal refusal.Nesting refusal.NotBuilt x y = absurd y
   one_refusal (refusal.Parse at) refusal.Length x y = absurd (too_long y (x.has.short))
   one_refusal (refusal.Parse at) (refusal.Bytes at') x y = absurd (no_tokens bytes at' x.tokens y x.has)
   one_refusal (refusal.Parse at) refusal.Nesting x y = absurd (not_nested y x.tokens x.has x.shallow)
@@ -187,7 +184,6 @@ module _ (bytes : List ℕ) where
   one_refusal (refusal.Parse at) (refusal.Shape kind' at') x y = absurd (no_written at y.written x y.has)
   one_refusal (refusal.Parse at) (refusal.Past kind') x y = absurd y
   one_refusal (refusal.Parse at) (refusal.Goal number' at' row' answer') x y = absurd y
-  one_refusal (refusal.Parse at) refusal.NotBuilt x y = absurd y
   one_refusal (refusal.Shape kind at) refusal.Length x y = absurd (too_long y (x.has.has.short))
   one_refusal (refusal.Shape kind at) (refusal.Bytes at') x y = absurd (no_tokens bytes at' x.has.tokens y x.has.has)
   one_refusal (refusal.Shape kind at) refusal.Nesting x y = absurd (not_nested y x.has.tokens x.has.has x.has.shallow)
@@ -195,10 +191,8 @@ module _ (bytes : List ℕ) where
   one_refusal (refusal.Shape kind at) (refusal.Shape kind' at') x y = one_shape kind kind' at at' x y
   one_refusal (refusal.Shape kind at) (refusal.Past kind') x y = absurd y
   one_refusal (refusal.Shape kind at) (refusal.Goal number' at' row' answer') x y = absurd y
-  one_refusal (refusal.Shape kind at) refusal.NotBuilt x y = absurd y
   one_refusal (refusal.Past kind) s x y = absurd x
   one_refusal (refusal.Goal number at row answer) s x y = absurd x
-  one_refusal refusal.NotBuilt s x y = absurd x
 
   -- and then it has none
   pub not_refused : (r : Refusal) (core : plain.Program) → HasNoCore bytes r → IsCore bytes core → ⊥
@@ -209,4 +203,3 @@ module _ (bytes : List ℕ) where
   not_refused (refusal.Shape kind at) core x c = no_core kind at core x c
   not_refused (refusal.Past kind) core x c = absurd x
   not_refused (refusal.Goal number at row answer) core x c = absurd x
-  not_refused refusal.NotBuilt core x c = absurd x

@@ -1,11 +1,7 @@
 pub mod CauseLaws
 pub mod CoreFates
-pub mod Emission
+pub mod CountedInstructions
 pub mod FateLaws
-pub mod ParsedAnswers
 pub mod Fates
-pub mod SmallRanges
-pub mod SmallSimulation
-pub mod SmallCores
-pub mod Stretches
-pub mod SmallSources
+pub mod ParsedAnswers
+pub mod WholeSources

@@ -1,9 +1,10 @@
 -- Why a command comes to what it does, and what the names hold then.
-use Rattle.std.specs.Prelude.{◌≡◌, ◌⊎◌, ℕ, List, Option, Some, None}
+use Rattle.std.specs.Prelude.{◌≡◌, ℕ, List, Option, Some, None}
 use Rattle.xan_io.specs.Faults.{Rose}
 use Rattle.typed_core.specs.declared.goal.GoalAt.{GoalAt}
 use Rattle.command_reports.specs.declared.answer.Answer.{Answer}
 use Rattle.command_reports.specs.declared.answer.Answer.TheVariants as answer
+use Rattle.command_reports.specs.declared.answer.Counts.{Counts}
 use Rattle.command_reports.specs.declared.refusal.Refusal.{Refusal}
 use Rattle.xanadu_driver.specs.Correct.{Wrote, Cut}
 use Rattle.command_reports.specs.Outside.{Held, Outside}
@@ -48,9 +49,9 @@ pub record WriteFails (source target : List ℕ) (before after : Held) : Type 0 
   pub rose : Rose (before.write_faults target) (after.write_faults target)
   pub cut : (told : List ℕ) → before.content source ≡ Some told → Cut told (before.content target) (after.content target)
 
--- where the source is told, the target holds its text, of so many instructions
-pub record Builds (source target : List ℕ) (instructions : ℕ) (before after : Held) : Type 0 where
-  pub wrote : (told : List ℕ) → before.content source ≡ Some told → Wrote told instructions (before.content target) (after.content target)
+-- where the source is told, the target holds its text, of so many functions, goals and instructions
+pub record Builds (source target : List ℕ) (counts : Counts) (before after : Held) : Type 0 where
+  pub wrote : (told : List ℕ) → before.content source ≡ Some told → Wrote told counts (before.content target) (after.content target)
 
 -- where the source is told, these are its goals
 pub record Lists (source : List ℕ) (goals : List GoalAt) (before after : Held) : Type 0 where
@@ -64,7 +65,7 @@ BuildCauses source target before after answer.ReadFailed = ReadFails source befo
 BuildCauses source target before after (answer.Refused refusal) = Refuses source refusal before after
 BuildCauses source target before after answer.Memory = Unchanged before after
 BuildCauses source target before after answer.WriteFailed = WriteFails source target before after
-BuildCauses source target before after (answer.Built instructions) = Builds source target instructions before after
+BuildCauses source target before after (answer.Built counts) = Builds source target counts before after
 
 -- of words that mean nothing
 abbrev pub NoCauses : Held → Held → Answer → Type 0
@@ -78,7 +79,7 @@ GoalsCauses source before after (Answered answer.ReadFailed) = ReadFails source 
 GoalsCauses source before after (Answered (answer.Refused refusal)) = Refuses source refusal before after × IsEarly refusal
 GoalsCauses source before after (Answered answer.Memory) = Unchanged before after
 GoalsCauses source before after (Answered answer.WriteFailed) = ⊥
-GoalsCauses source before after (Answered (answer.Built instructions)) = ⊥
+GoalsCauses source before after (Answered (answer.Built counts)) = ⊥
 GoalsCauses source before after (Listed goals) = Lists source goals before after
 
 abbrev pub Causes : Option Meant → Held → Held → Found → Type 0

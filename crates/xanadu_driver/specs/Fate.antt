@@ -1,5 +1,5 @@
 -- What becomes of the bytes of a source, computed: the passes one after the other, and the first thing that stops it.
-use Rattle.std.specs.Prelude.{ℕ, nat_le, List, [], ◌∷◌, length, Option, Some, None, Result, Ok, Err, if◌then◌else◌}
+use Rattle.std.specs.Prelude.{ℕ, nat_le, List, length, Option, Some, None, Result, Ok, Err, if◌then◌else◌}
 use Rattle.xan_seq.specs.Answers.{◌>>=◌}
 use Rattle.xanadu_lexer.specs.Lexing.{lexed}
 use Rattle.xanadu_parser.specs.Parsing.{parsed}
@@ -10,14 +10,12 @@ use Rattle.typed_core.specs.Goals.{Elaboration, elaborated}
 use Rattle.typed_core.specs.Limits.{Stop, Past, Misfit, Stray}
 use Rattle.typed_core.specs.declared.goal.GoalAt.{GoalAt}
 use Rattle.goal_table.specs.Unproved.{Failure, first_unproved}
-use Rattle.dtal_code.specs.declared.straight.Straight.{Straight}
+use Rattle.command_reports.specs.declared.answer.Counts.{Counts}
 use Rattle.command_reports.specs.declared.refusal.Refusal.TheVariants as refusal
 use Rattle.command_reports.specs.declared.refusal.SourceError.{SourceError}
 use Rattle.command_reports.specs.declared.refusal.SourceError.TheVariants as error
-use Rattle.xanadu_driver.specs.Forms.{is_small, returned}
-use Rattle.xanadu_driver.specs.Lowering.{straight_of}
 use Rattle.command_reports.specs.Stops.{of_lexer, of_parser}
-use Rattle.xanadu_driver.specs.Source.{source_most}
+use Rattle.xanadu_driver.specs.Source.{source_most, counts_of}
 
 -- what a pass gives, or what its error stops the source with
 abbrev pub or_stop : {A E : Type 0} → (E → SourceError) → Result A E → Result A SourceError
@@ -40,23 +38,6 @@ of_walk Stray = error.Memory
 abbrev pub none_fails : Option Failure → Result (Unit {0}) SourceError
 none_fails None = Ok tt
 none_fails (Some failure) = Err (error.Refused (refusal.Goal failure.number failure.at failure.row failure.answer))
-
--- ---- code
-
-abbrev pub other_form : Result Straight SourceError
-other_form = Err (error.Refused refusal.NotBuilt)
-
-abbrev pub lowered_function : plain.Fun → Option plain.Expr → Result Straight SourceError
-lowered_function fun (Some sum) = Ok (straight_of (length fun.params) sum)
-lowered_function fun None = other_form
-
-abbrev pub lowered_functions : List plain.Fun → Result Straight SourceError
-lowered_functions (fun ∷ []) = lowered_function fun (returned fun.body)
-lowered_functions _ = other_form
-
--- the code of the core, where it is small
-abbrev pub lowered : plain.Program → Result Straight SourceError
-lowered core = if is_small core then lowered_functions core.funs else other_form
 
 -- ---- the passes in their order
 
@@ -88,9 +69,9 @@ goals_of bytes = do
   checked ← checked_of bytes
   Ok checked.made.goals
 
--- its code
-unfoldable pub fate : List ℕ → Result Straight SourceError
+-- how many functions, goals and instructions the source has that is built
+unfoldable pub fate : List ℕ → Result Counts SourceError
 fate bytes = do
   checked ← checked_of bytes
   proved ← none_fails (first_unproved checked.made.goals)
-  lowered checked.core
+  Ok (counts_of checked.core checked.made)

@@ -2,8 +2,5 @@ pub mod Causes
 pub mod Correct
 pub mod Fate
 pub mod Finding
-pub mod Forms
-pub mod Lowering
-pub mod Meaning
 pub mod Reported
 pub mod Source

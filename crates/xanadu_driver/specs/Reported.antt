@@ -1,6 +1,6 @@
 -- What the program reports of a command.
-use Rattle.std.specs.Prelude.{ℕ, List, length, Option, Some, None, option_map, Result, Ok, Err}
-use Rattle.dtal_code.specs.declared.straight.Straight.{Straight}
+use Rattle.std.specs.Prelude.{ℕ, List, Option, Some, None, option_map, Result, Ok, Err}
+use Rattle.command_reports.specs.declared.answer.Counts.{Counts}
 use Rattle.typed_core.specs.declared.goal.GoalAt.{GoalAt}
 use Rattle.command_reports.specs.declared.answer.Answer.{Answer}
 use Rattle.command_reports.specs.declared.answer.Answer.TheVariants as answer
@@ -15,8 +15,8 @@ stopped (error.Refused refusal) = answer.Refused refusal
 stopped error.Memory = answer.Memory
 
 -- the answer to a source of this fate
-abbrev pub built : Result Straight SourceError → Found
-built (Ok program) = Answered (answer.Built (length program.code))
+abbrev pub built : Result Counts SourceError → Found
+built (Ok counts) = Answered (answer.Built counts)
 built (Err stop) = Answered (stopped stop)
 
 -- what is listed of a source with these goals

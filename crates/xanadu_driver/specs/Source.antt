@@ -1,7 +1,7 @@
--- How far the bytes of a source come: they are refused for one thing, or have a core that is small and whose goals are proved, and its code.
+-- How far the bytes of a source come: they are refused for one thing, or have a core whose goals are proved, and then a program.
 --
 -- A source is looked at in this order: its length, its tokens, how deep its brackets nest, its tree, its shape, the limits of its core, its
--- goals, its form.
+-- goals.
 use Rattle.std.specs.Prelude.{◌≡◌, ℕ, ◌≤◌, ◌<◌, List, length, Some, None, Result, Ok, Err}
 use Rattle.xanadu_lexer.specs.declared.error.LexError.TheVariants as lex_error
 use Rattle.xanadu_lexer.specs.declared.error.LexKind.{LexKind}
@@ -12,7 +12,6 @@ use Rattle.xanadu_parser.specs.Kinds.{kinds_of}
 use Rattle.xanadu_tree.specs.Nesting.{IsTooNested}
 use Rattle.xanadu_tree.specs.Plain as plain
 use Rattle.xanadu_tree.specs.PlainTree as tree
-use Rattle.xanadu_tree.specs.Small.{IsSmall}
 use Rattle.xanadu_tree.specs.Written.{Parses}
 use Rattle.type_shapes.specs.declared.error.ShapeKind.{ShapeKind}
 use Rattle.type_shapes.specs.Faults.{Fault}
@@ -23,8 +22,8 @@ use Rattle.typed_core.specs.Goals.{Elaboration, elaborated}
 use Rattle.typed_core.specs.Limits.{Past, most}
 use Rattle.typed_core.specs.declared.goal.GoalAt.{GoalAt}
 use Rattle.goal_table.specs.Unproved.{Failure, first_unproved}
-use Rattle.dtal_code.specs.declared.straight.Straight.{Straight}
-use Rattle.xanadu_driver.specs.Lowering.{straight_of}
+use Rattle.program_builder.specs.Counts.{size_of}
+use Rattle.command_reports.specs.declared.answer.Counts.{Counts}
 use Rattle.command_reports.specs.declared.refusal.Refusal.{Refusal}
 use Rattle.command_reports.specs.declared.refusal.Refusal.TheVariants as refusal
 use Rattle.command_reports.specs.declared.refusal.SourceError.{SourceError}
@@ -67,17 +66,20 @@ pub record HasGoals (bytes : List ℕ) (goals : List GoalAt) : Type 0 where
   pub are : goals ≡ made.goals
 
 -- all its goals are proved
-pub record IsProved (bytes : List ℕ) (core : plain.Program) : Type 0 where
-  pub made : Elaboration
+pub record IsProved (bytes : List ℕ) (core : plain.Program) (made : Elaboration) : Type 0 where
   pub has : IsElaborated bytes core made
   pub proved : first_unproved made.goals ≡ None
 
--- its goals are proved, its core is small, and this is its code
-pub record HasCode (bytes : List ℕ) (program : Straight) : Type 0 where
+-- how many functions and goals a core has, and how many instructions its program
+abbrev pub counts_of : plain.Program → Elaboration → Counts
+counts_of core made = record { functions = length core.funs; goals = length made.goals; instructions = size_of core made }
+
+-- its goals are proved, and it has so many of each
+pub record IsBuildable (bytes : List ℕ) (counts : Counts) : Type 0 where
   pub core : plain.Program
-  pub has : IsProved bytes core
-  pub small : IsSmall core
-  pub lowered : program ≡ straight_of small.count small.value
+  pub made : Elaboration
+  pub has : IsProved bytes core made
+  pub counted : counts ≡ counts_of core made
 
 -- ---- why it comes no further
 
@@ -119,13 +121,7 @@ pub record IsUnproved (bytes : List ℕ) (failure : Failure) : Type 0 where
   pub has : IsElaborated bytes core made
   pub first : first_unproved made.goals ≡ Some failure
 
--- its goals are proved, and its core is not small
-pub record IsOfOtherForm (bytes : List ℕ) : Type 0 where
-  pub core : plain.Program
-  pub has : IsProved bytes core
-  pub other : IsSmall core → ⊥
-
--- The source is refused for this. It is refused for one thing at most, and then it has no small core.
+-- The source is refused for this. It is refused for one thing at most, and then its goals are not all proved.
 abbrev pub IsRefused : List ℕ → Refusal → Type 0
 IsRefused bytes refusal.Length = source_most < length bytes
 IsRefused bytes (refusal.Bytes at) = IsBytesFault bytes at
@@ -134,7 +130,6 @@ IsRefused bytes (refusal.Parse at) = IsParseFault bytes at
 IsRefused bytes (refusal.Shape kind at) = IsShapeFault bytes kind at
 IsRefused bytes (refusal.Past kind) = IsPastLimit bytes kind
 IsRefused bytes (refusal.Goal number at row answer) = IsUnproved bytes (record { number = number; at = at; row = row; answer = answer })
-IsRefused bytes refusal.NotBuilt = IsOfOtherForm bytes
 
 -- a source of which nothing came: it is refused, or memory ran out
 abbrev pub Stops : List ℕ → SourceError → Type 0
@@ -144,7 +139,6 @@ Stops bytes error.Memory = Unit {0}
 -- in front of all goals
 abbrev pub IsEarly : Refusal → Type 0
 IsEarly (refusal.Goal number at row answer) = ⊥
-IsEarly refusal.NotBuilt = ⊥
 IsEarly _ = Unit {0}
 
 abbrev pub ComesEarly : SourceError → Type 0
@@ -158,14 +152,8 @@ FailsGoals goals (error.Refused (refusal.Goal number at row answer)) =
 FailsGoals goals (error.Refused _) = ⊥
 FailsGoals goals error.Memory = Unit {0}
 
--- the core is not small, or memory ran out
-abbrev pub FailsForm : plain.Program → SourceError → Type 0
-FailsForm core (error.Refused refusal.NotBuilt) = IsSmall core → ⊥
-FailsForm core (error.Refused _) = ⊥
-FailsForm core error.Memory = Unit {0}
-
--- What becomes of a source where memory suffices: the code of its small core, whose goals are proved, or what it is refused for.
-abbrev pub HasFate : List ℕ → Result Straight SourceError → Type 0
-HasFate bytes (Ok program) = HasCode bytes program
+-- What becomes of a source where memory suffices: a program, of so many functions, goals and instructions, or what it is refused for.
+abbrev pub HasFate : List ℕ → Result Counts SourceError → Type 0
+HasFate bytes (Ok counts) = IsBuildable bytes counts
 HasFate bytes (Err (error.Refused refusal)) = IsRefused bytes refusal
 HasFate bytes (Err error.Memory) = ⊥

@@ -2,6 +2,7 @@
 
 ghost use Rattle.std.specs.Prelude.{◌≡◌, ◌≢◌, ◌≤◌, ℕ, List, Some, length};
 ghost use Rattle.xan_io.specs.Faults.{Rose};
+ghost use Rattle.command_reports.specs.declared.answer.Counts.{Counts};
 ghost use Rattle.command_reports.specs.declared.refusal.Refusal.{Refusal};
 ghost use Rattle.xanadu_driver.specs.Correct.{Wrote, Cut};
 ghost use Rattle.command_reports.specs.Answers.{Keeps};
@@ -22,7 +23,7 @@ pub fn build<F: Files>(alloc: Global, files: &mut F, source: &str, target: &str)
     ensures refused { (refusal : Refusal) → result ≡ Answer.Refused refusal → (told : List ℕ) → F.content files.old source.now ≡ Some told → IsRefused told refusal }
     ensures kept { Keeps result → F.content files.new target.now ≡ F.content files.old target.now }
     ensures cut { result ≡ Answer.WriteFailed → (told : List ℕ) → F.content files.old source.now ≡ Some told → Cut told (F.content files.old target.now) (F.content files.new target.now) }
-    ensures built { (instructions : ℕ) → result ≡ Answer.Built instructions → (told : List ℕ) → F.content files.old source.now ≡ Some told → Wrote told instructions (F.content files.old target.now) (F.content files.new target.now) }
+    ensures built { (counts : Counts) → result ≡ Answer.Built counts → (told : List ℕ) → F.content files.old source.now ≡ Some told → Wrote told counts (F.content files.old target.now) (F.content files.new target.now) }
 {
     match files.read(alloc, source, most(LimitKind::Length)) {
         Ok(FileRead::Whole(bytes)) => build_bytes(alloc, files, bytes.as_slice(), target),
@@ -42,11 +43,11 @@ fn build_bytes<F: Files>(alloc: Global, files: &mut F, source: &[u8], target: &s
     ensures refused { (refusal : Refusal) → result ≡ Answer.Refused refusal → IsRefused source.now refusal }
     ensures kept { Keeps result → F.content files.new target.now ≡ F.content files.old target.now }
     ensures cut { result ≡ Answer.WriteFailed → Cut source.now (F.content files.old target.now) (F.content files.new target.now) }
-    ensures built { (instructions : ℕ) → result ≡ Answer.Built instructions → Wrote source.now instructions (F.content files.old target.now) (F.content files.new target.now) }
+    ensures built { (counts : Counts) → result ≡ Answer.Built counts → Wrote source.now counts (F.content files.old target.now) (F.content files.new target.now) }
 {
     match compile(alloc, source) {
         Ok(text) => match files.write(alloc, target, text.bytes.as_slice()) {
-            Ok(()) => Answer::Built(text.instructions),
+            Ok(()) => Answer::Built(text.counts),
             Err(FileFault::Failed) => Answer::WriteFailed,
             Err(FileFault::Memory) => Answer::Memory,
         },

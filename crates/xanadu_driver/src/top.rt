@@ -19,7 +19,7 @@ use xan_io::{Files, Sink};
 ///
 /// The words are those behind the program's own name. The statuses are 0 (built, or all goals are proved), 2 (the words are no command),
 /// 3 (the source was not read), 4 (the text or a line was not written), 5 (a limit is passed), 6 (memory), 7 (the source has no tokens),
-/// 8 (it has no tree), 9 (its shape has a fault), 10 (a goal is not proved) and 20 (it is of no form that is built yet).
+/// 8 (it has no tree), 9 (its shape has a fault) and 10 (a goal is not proved).
 pub fn xanadu_top<F: Files, O: Sink>(
     alloc: Global,
     words: &[&str],

@@ -1,20 +1,20 @@
 //! From the bytes of a source to the text of its program: the passes in their order.
 
-ghost use Rattle.std.specs.Prelude.{◌≡◌, ◌≤◌, length, IfOk, IfErr, OnOk};
+ghost use Rattle.std.specs.Prelude.{◌≡◌, ◌≤◌, length, IfOk, IfErr};
 ghost use Rattle.xanadu_parser.specs.Faults.{IsAnswer};
 ghost use Rattle.xanadu_tree.specs.PlainOf.{plain_core};
 ghost use Rattle.xanadu_tree.specs.PlainTreeOf.{plain_tree};
-ghost use Rattle.xanadu_tree.specs.Small.{IsSmall};
 ghost use Rattle.goal_table.specs.Answers.{AllAreProved};
 ghost use Rattle.xanadu_driver.specs.Correct.{Translates, IsTextOf};
-ghost use Rattle.xanadu_driver.specs.Source.{IsCore, IsElaborated, Stops, ComesEarly, FailsGoals, FailsForm, source_most};
+ghost use Rattle.xanadu_driver.specs.Source.{IsCore, IsElaborated, Stops, ComesEarly, FailsGoals, source_most};
 
-use crate::lower::lower;
-use crate::small::is_small;
-use command_reports::{Refusal, SourceError, Workspace};
+use crate::counting::count;
+use command_reports::{Counts, SourceError, Workspace};
 use constraint_elaborator::elaborate;
-use dtal_code::{one_program_a_text, print_straight};
+use dtal_code::print;
+use dtal_text::program_texts_are_read;
 use goal_table::prove_all;
+use program_builder::build_program;
 use scope_shapes::resolve;
 use std::alloc::Global;
 use typed_core::{Elaborated, Proved};
@@ -23,18 +23,18 @@ use xanadu_lexer::{Token, lex};
 use xanadu_parser::{ParseError, parse};
 use xanadu_tree::{Core, Tree};
 
-/// The text of a program, and how many instructions it has.
+/// The text of a program, and how many functions, goals and instructions it has.
 #[derive(Drop)]
 pub struct Text {
     pub bytes: Vec<u8>,
-    pub instructions: u32,
+    pub counts: Counts,
 }
 
-/// The text of the source's program, which does what the source does. `Refused` tells the first thing that the source is refused for,
-/// behind its length.
+/// The text of the source's program, which is accepted and does what the source does. `Refused` tells the first thing that the source is
+/// refused for, behind its length.
 pub fn compile(alloc: Global, source: &[u8]) -> Result<Text, SourceError>
     requires { length source.now ≤ source_most }
-    ensures text { IfOk result (λ text. Translates source.now text.bytes.items text.instructions) }
+    ensures text { IfOk result (λ text. Translates source.now text.bytes.items text.counts) }
     ensures refused { IfErr result (Stops source.now) }
 {
     let base = elaborate_source(alloc, source)?;
@@ -76,19 +76,17 @@ fn prove(alloc: Global, base: Elaborated) -> Result<Proved, SourceError>
 }
 
 /// The text of a program of which all goals are proved.
-fn print_program(alloc: Global, program: &Proved) -> Result<Text, SourceError>
-    ensures text { IfOk result (λ text. IsTextOf (plain_core program.now.base.core) text.bytes.items text.instructions) }
-    ensures refused { IfErr result (FailsForm (plain_core program.now.base.core)) }
+fn print_program(alloc: Global, proved: &Proved) -> Result<Text, SourceError>
+    ensures text { IfOk result (λ text. IsTextOf (plain_core proved.now.base.core) proved.now.base.made text.bytes.items text.counts) }
+    ensures refused { IfErr result (λ stop. stop ≡ SourceError.Memory) }
 {
-    let core = program.base().core();
-    check_form(core)?;
-    let code = lower(alloc, core)?;
-    let bytes = print_straight(alloc, &code)?;
+    let program = build_program(alloc, proved)?;
+    let bytes = print(alloc, &program)?;
     // Cites the law: the text spells no other program.
-    one_program_a_text();
+    program_texts_are_read();
     Ok(Text {
         bytes,
-        instructions: code.code.as_slice().len() as u32,
+        counts: count(proved, &program),
     })
 }
 
@@ -97,16 +95,4 @@ fn parse_tokens(alloc: Global, tokens: Seq<Token>, end: u32) -> Result<Tree, Par
     ensures { IsAnswer plain_tree tokens end result }
 {
     parse(alloc, tokens.as_slice(), end)
-}
-
-/// A core that is not small is not built yet.
-fn check_form(core: &Core) -> Result<(), SourceError>
-    ensures small { OnOk result (IsSmall (plain_core core.now)) }
-    ensures other { IfErr result (λ stop. (stop ≡ SourceError.Refused Refusal.NotBuilt) × (IsSmall (plain_core core.now) → ⊥)) }
-{
-    if is_small(core) {
-        Ok(())
-    } else {
-        Err(SourceError::Refused(Refusal::NotBuilt))
-    }
 }

@@ -149,8 +149,8 @@ fn sources_with_a_goal_that_is_not_proved(rt: HostRuntime) -> Result<(), Fail> {
         assert!(rt; is_left(&keeping(alloc, source)?, 10, line));
         assert_eq!(rt; plain(alloc, GOALS, Some(source))?.status, 10);
     }
-    // Where all are proved, the form is what is not built yet.
-    assert!(rt; is_left(&keeping(alloc, SEARCH)?, 20, b"not built yet\n"));
+    // Where all are proved, the source is built.
+    assert_eq!(rt; keeping(alloc, SEARCH)?.status, 0);
     Ok(())
 }
 
@@ -308,7 +308,7 @@ fn each_limit_of_elaboration(rt: HostRuntime) -> Result<(), Fail> {
             )
         );
         let within = numbered(alloc, first, before, behind, count.saturating_sub(1), last)?;
-        assert_eq!(rt; keeping(alloc, within.as_slice())?.status, 20);
+        assert_eq!(rt; keeping(alloc, within.as_slice())?.status, 0);
     }
     Ok(())
 }
@@ -402,7 +402,7 @@ fn limits_of_forms_and_of_goals(rt: HostRuntime) -> Result<(), Fail> {
     assert!(rt; is_left(&keeping(alloc, terms.as_slice())?, 5, b"limit: terms 16\n"));
     assert_eq!(rt;
         keeping(alloc, wide_clause(alloc, 15)?.as_slice())?.status,
-        20
+        0
     );
     // The limit of a goal stands behind it in the list, and is the line of a build.
     let many = chain(alloc, 65)?;

@@ -73,37 +73,12 @@ const REFUSED: &[(&[u8], u8, &[u8])] = &[
     ),
 ];
 
-/// Sources that have a core which is not small.
-const OTHER_FORMS: &[&[u8]] = &[
-    b"fun main(x: int): int { return x * x; }",
-    b"fun main(): int { return - 3; }",
-    b"fun main(a: bool): int { return 1; }",
-    b"fun main(a: int[]): int { return 1; }",
-    b"fun main(a: int(3)): int { return a; }",
-    b"fun main(x: int): int { print x; return x; }",
-    b"fun main(x: int): int { var y = x; return y; }",
-    b"fun main(): int { return f(); } fun f(): int { return 1; }",
-    b"fun f(): int { return 1; } fun main(): int { return 1; }",
-    b"type T = int; fun main(): int { return 1; }",
-    b"fun main{n: nat}(x: int(n)): int { return x; }",
-    b"fun main(x: int): {r: nat} int(r) { return 1; }",
-    b"fun main(x: int): int(1) { return 1; }",
-    b"fun main{n: int}(x: int(n)): int(n) { return x; }",
-    b"fun main(x: int): int { return x + (x + x); }",
-    b"fun main(x: int): int { return x + x / 2; }",
-    b"fun main{n: nat}(a: int[n]): int {\n  var i = 0;\n  var s = 0;\n  while (i < len(a)) with {k: int | 0 <= k, k <= n} (i: int(k)) {\n    s = s + a[i];\n    i = i + 1;\n  }\n  return s;\n}\n",
-];
-
 #[test]
 fn refused_sources_leave_the_target(rt: HostRuntime) -> Result<(), Fail> {
     let alloc = rt.alloc();
     for (source, status, line) in REFUSED {
         let refused = keeping(alloc, source)?;
         assert!(rt; is_left(&refused, *status, line));
-    }
-    for source in OTHER_FORMS {
-        let other = keeping(alloc, source)?;
-        assert!(rt; is_left(&other, 20, b"not built yet\n"));
     }
     Ok(())
 }

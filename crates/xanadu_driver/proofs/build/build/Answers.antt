@@ -1,6 +1,6 @@
 use Rattle.std.proofs.Common.{sym, ◌∙◌, subst}
 use Rattle.xanadu_driver.specs.Source.{IsRefused}
-use Rattle.xanadu_driver.proofs.SmallSources.{whole_is, whole_read}
+use Rattle.xanadu_driver.proofs.WholeSources.{whole_is, whole_read}
 use Rattle.xanadu_driver.proofs.build.build.Goals as goal
 
 pub returns-in-Ok-Whole-clause-refused : goal.returns-in-Ok-Whole-clause-refused

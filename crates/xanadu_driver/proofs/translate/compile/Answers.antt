@@ -1,4 +1,4 @@
-use Rattle.xanadu_driver.proofs.SmallSources.{whole_text}
+use Rattle.xanadu_driver.proofs.WholeSources.{whole_text}
 use Rattle.xanadu_driver.proofs.translate.compile.Goals as goal
 
 pub returns-clause-text : goal.returns-clause-text
