@@ -1,9 +1,9 @@
 //! From bytes to a machine.
 
 use dtal_assembler::assemble;
+use dtal_machine::{Machine, main_signature};
 use dtal_text::read;
 use dtal_verifier::verify;
-use object_machine::{Machine, main_signature};
 use std::alloc::Global;
 use xan_io::Arg;
 

@@ -6,7 +6,7 @@
 mod loading;
 
 use crate::loading::load;
-use object_machine::{Event, Machine};
+use dtal_machine::{Event, Machine};
 use std::alloc::Global;
 use std::process::ExitCode;
 use std::{env, io};

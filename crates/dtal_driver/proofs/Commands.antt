@@ -18,11 +18,11 @@ use Rattle.dtal_code.specs.ObjectCode.{Code, code_of}
 use Rattle.dtal_code.specs.Runs.{program_entry, outcome_from}
 use Rattle.dtal_code.specs.Safety.{IsSafeRun, RunsSafely}
 use Rattle.dtal_code.proofs.VerifiedPrograms.{accepted_is_verified}
-use Rattle.object_machine.specs.declared.loading.LoadError.{LoadError}
-use Rattle.object_machine.specs.declared.loading.LoadError.TheVariants as load
-use Rattle.object_machine.specs.Loading.{fault_error, begins, loaded, Loads, IsRunOf}
-use Rattle.object_machine.specs.Steps.{Loaded, run_on}
-use Rattle.object_machine.proofs.DrivenMachines.{run-begins, run-live}
+use Rattle.dtal_machine.specs.declared.loading.LoadError.{LoadError}
+use Rattle.dtal_machine.specs.declared.loading.LoadError.TheVariants as load
+use Rattle.dtal_machine.specs.Loading.{fault_error, begins, loaded, Loads, IsRunOf}
+use Rattle.dtal_machine.specs.Steps.{Loaded, run_on}
+use Rattle.dtal_machine.proofs.DrivenMachines.{run-begins, run-live}
 use Rattle.dtal_driver.specs.declared.answer.Answer.{Answer}
 use Rattle.dtal_driver.specs.declared.answer.Answer.TheVariants as answer
 use Rattle.dtal_driver.specs.declared.options.Limits.{Limits}

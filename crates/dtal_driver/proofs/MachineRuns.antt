@@ -8,9 +8,9 @@ use Rattle.xan_io.proofs.Puts.{append_known-nil, append_known-twice, prefix_behi
 use Rattle.dtal_code.specs.Machine.{State, On, Off, after}
 use Rattle.dtal_code.specs.ObjectCode.{Code}
 use Rattle.dtal_code.specs.Running.{step, run}
-use Rattle.object_machine.specs.declared.event.Event.TheVariants.{Going, Print, Returned, NoStore, Overflow}
-use Rattle.object_machine.specs.Steps.{Loaded, Now, Live, Over, IsLive, event, stepped, moved, run_from, run_on}
-use Rattle.object_machine.proofs.DrivenMachines.{Stands, stands-begins, stands-going, stands-print, stands-returned, stands-no_store, stands-overflow, stands-spent}
+use Rattle.dtal_machine.specs.declared.event.Event.TheVariants.{Going, Print, Returned, NoStore, Overflow}
+use Rattle.dtal_machine.specs.Steps.{Loaded, Now, Live, Over, IsLive, event, stepped, moved, run_from, run_on}
+use Rattle.dtal_machine.proofs.DrivenMachines.{Stands, stands-begins, stands-going, stands-print, stands-returned, stands-no_store, stands-overflow, stands-spent}
 use Rattle.xan_io.specs.Lines.{number_line}
 use Rattle.dtal_driver.specs.Answers.{number_lines}
 use Rattle.dtal_driver.specs.declared.run.End.{End}

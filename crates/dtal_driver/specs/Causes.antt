@@ -13,8 +13,8 @@ use Rattle.dtal_code.specs.Acceptance.{Accepted}
 use Rattle.dtal_code.specs.Grammar.{InGrammar, Spells}
 use Rattle.dtal_code.specs.Refusing.{verified}
 use Rattle.dtal_text.specs.WholeText.{IsSpelled}
-use Rattle.object_machine.specs.Loading.{IsRunOf}
-use Rattle.object_machine.specs.Steps.{Loaded, IsLive, run_on}
+use Rattle.dtal_machine.specs.Loading.{IsRunOf}
+use Rattle.dtal_machine.specs.Steps.{Loaded, IsLive, run_on}
 use Rattle.dtal_driver.specs.declared.answer.Answer.{Answer}
 use Rattle.dtal_driver.specs.declared.answer.Answer.TheVariants as answer
 use Rattle.dtal_driver.specs.declared.options.Limits.{Limits}

@@ -7,7 +7,7 @@ use Rattle.xan_read.specs.Numbers.{number}
 use Rattle.xan_read.specs.Words.{Table, word}
 use Rattle.xan_io.specs.Arguments.{read_of}
 use Rattle.xan_io.specs.Words.{is_value}
-use Rattle.object_machine.specs.declared.limits.TheConstants.{MOST_HEAP, MOST_DEPTH}
+use Rattle.dtal_machine.specs.declared.limits.TheConstants.{MOST_HEAP, MOST_DEPTH}
 use Rattle.dtal_driver.specs.declared.limits.TheConstants.{HEAP, DEPTH, STEPS, MOST_STEPS}
 use Rattle.dtal_driver.specs.declared.options.Given.{Given}
 use Rattle.dtal_driver.specs.declared.options.Limit.{Limit}

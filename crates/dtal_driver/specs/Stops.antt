@@ -5,8 +5,8 @@ use Rattle.dtal_text.specs.declared.text_error.TextError.{TextError}
 use Rattle.dtal_text.specs.declared.text_error.TextError.TheVariants as text_error
 use Rattle.dtal_verifier.specs.declared.error.VerifyError.{VerifyError}
 use Rattle.dtal_verifier.specs.declared.error.VerifyError.TheVariants as verify_error
-use Rattle.object_machine.specs.declared.loading.LoadError.{LoadError}
-use Rattle.object_machine.specs.declared.loading.LoadError.TheVariants as load_error
+use Rattle.dtal_machine.specs.declared.loading.LoadError.{LoadError}
+use Rattle.dtal_machine.specs.declared.loading.LoadError.TheVariants as load_error
 use Rattle.dtal_driver.specs.declared.answer.Answer.{Answer}
 use Rattle.dtal_driver.specs.declared.answer.Answer.TheVariants as answer
 

@@ -6,9 +6,9 @@ ghost use Rattle.dtal_driver.specs.Stops.{of_read, of_program, of_verdict, of_lo
 ghost use Rattle.dtal_driver.specs.declared.answer.Answer.TheVariants as answers;
 
 use dtal_code::{Rule, Where};
+use dtal_machine::LoadError;
 use dtal_text::TextError;
 use dtal_verifier::VerifyError;
-use object_machine::LoadError;
 use xan_io::{FileFault, Memory};
 
 /// How a command came out, in the order in which it may end. Arguments and rows are numbered from 1.

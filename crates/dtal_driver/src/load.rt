@@ -9,8 +9,8 @@ use crate::answer::Answer;
 use crate::options::Limits;
 use dtal_assembler::assemble;
 use dtal_code::DtalProgram;
+use dtal_machine::{Machine, main_signature};
 use dtal_safety::accepted_programs_run_safely;
-use object_machine::{Machine, main_signature};
 use std::alloc::Global;
 use xan_io::Arg;
 

@@ -9,7 +9,7 @@ ghost use Rattle.dtal_driver.specs.Options as spec;
 ghost use Rattle.dtal_driver.specs.Options.{AreAllowed, IsWithin};
 
 use crate::limits::{DEPTH, HEAP, MOST_STEPS, STEPS};
-use object_machine::limits::{MOST_DEPTH, MOST_HEAP};
+use dtal_machine::limits::{MOST_DEPTH, MOST_HEAP};
 use xan_io::is_value;
 use xan_read::{Fault, nothing_left, number, word};
 

@@ -4,12 +4,12 @@ ghost use Rattle.std.specs.Prelude.{◌≡◌, ◌≤◌, [], ◌++◌, OnOk, On
 ghost use Rattle.std.specs.Io.KnownBytes.{append_known};
 ghost use Rattle.xan_io.specs.Faults.{Rose};
 ghost use Rattle.xan_io.specs.Written.{AppendsPrefix};
-ghost use Rattle.object_machine.specs.Steps.{IsLive, run_on};
+ghost use Rattle.dtal_machine.specs.Steps.{IsLive, run_on};
 ghost use Rattle.dtal_driver.specs.Answers.{number_lines};
 ghost use Rattle.dtal_driver.specs.Report.{answer_of, how_of};
 
 use crate::answer::Answer;
-use object_machine::{Event, Machine};
+use dtal_machine::{Event, Machine};
 use xan_io::{Sink, SinkFault, put_number};
 
 /// How the run of an accepted program has come out. It wants no memory.

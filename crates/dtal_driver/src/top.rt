@@ -3,7 +3,7 @@
 ghost use Rattle.std.specs.Prelude.{◌≡◌, ◌≢◌, ◌<◌, ◌⊎◌, ℕ, List, Some, None, Err, [], IfOk, IfErr};
 ghost use Rattle.xan_io.specs.Faults.{Rose};
 ghost use Rattle.xan_io.specs.Outcome.{Stuck};
-ghost use Rattle.object_machine.specs.Steps.{IsLive, run_on};
+ghost use Rattle.dtal_machine.specs.Steps.{IsLive, run_on};
 ghost use Rattle.dtal_code.specs.declared.program.DtalProgram.{DtalProgram};
 ghost use Rattle.dtal_code.specs.Acceptance.{Accepted};
 ghost use Rattle.dtal_code.specs.Refusing.{verified};
@@ -27,9 +27,9 @@ use crate::run::{End, run};
 use crate::text::verified_program;
 use crate::words::{Command, WordsError, read_command};
 use dtal_code::{Rule, Where};
+use dtal_machine::Machine;
 use dtal_safety::accepted_programs_run_safely;
 use dtal_text::program_texts_are_read;
-use object_machine::Machine;
 use std::alloc::Global;
 use xan_io::{Arg, Files, Sink};
 

@@ -1,4 +1,13 @@
-pub mod Typings
-pub mod Runs
-pub mod Machines
-pub mod MachineSteps
+mod StoreBlocks
+mod ListedWords
+mod ReadPlaces
+mod Frames
+mod SimpleEffects
+mod SimpleSteps
+mod AdvancedRuns
+mod PlacedArguments
+mod CodedPrograms
+mod KeptRuns
+mod EntryValues
+mod MainEntry
+pub mod DrivenMachines

@@ -1,7 +1,7 @@
-pub mod Typing
-pub mod Refusal
-pub mod Fits
-pub mod Steps
-pub mod Loading
+pub mod CodedWords
 pub mod Acting
-pub mod Ending
+pub mod Stacks
+pub mod Steps
+pub mod Kept
+pub mod Placing
+pub mod Loading

@@ -2,8 +2,9 @@
 use Rattle.std.specs.Prelude.{ℕ, ℤ, List, Option, None, Some}
 use Rattle.xan_io.specs.Outcome.{How, Stuck, Running, Outcome}
 use Rattle.xan_io.specs.Outcome.{Returned as by_return, NoStore as without_store, Overflow as by_overflow}
-use Rattle.dtal_code.specs.declared.op.Op.{Op}
-use Rattle.dtal_code.specs.Machine.{State, Next, On, Off, step, run}
+use Rattle.dtal_code.specs.Machine.{State, Next, On, Off}
+use Rattle.dtal_code.specs.ObjectCode.{Code}
+use Rattle.dtal_code.specs.Running.{step, run}
 use Rattle.dtal_machine.specs.declared.event.Event.{Event}
 use Rattle.dtal_machine.specs.declared.event.Event.TheVariants.{Going, Print, Returned, NoStore, Overflow}
 
@@ -19,11 +20,11 @@ IsLive (Over how) = ⊥
 
 -- a machine: the code that it runs, and how its run stands
 pub record Loaded : Type 0 where
-  pub code : List Op
+  pub code : Code
   pub now : Now
 
 -- the step of a run that goes on; one that has ended ends in the same way again
-abbrev pub steps_from : List Op → Now → Next
+abbrev pub steps_from : Code → Now → Next
 steps_from code (Live state) = step code state
 steps_from code (Over how) = Off how
 
@@ -55,7 +56,7 @@ event (Off how) = end_event how
 
 -- ---- whole runs
 
-abbrev pub run_from : List Op → Now → ℕ → List ℤ → Outcome
+abbrev pub run_from : Code → Now → ℕ → List ℤ → Outcome
 run_from code (Live state) steps printed = run code steps printed state
 run_from code (Over how) steps printed = record { printed = printed; how = how }
 

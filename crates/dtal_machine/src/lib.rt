@@ -1,24 +1,33 @@
-//! Which straight programs are accepted, and the machine that runs them.
+//! The machine that runs the object words of an accepted program.
 //!
-//! `verify` answers exactly whether a program has types for its places before each instruction, or the first place that refuses.
-//! `Machine` runs what was accepted: it makes exactly the steps of `dtal_code`'s machine, takes all its memory when it is loaded, and
-//! tests no index, since a run of an accepted program is never stuck. It stands on `dtal_code`, `xan_io` and `xan_seq`.
+//! [`Machine::load`] answers exactly the first fault of the arguments, that there is no room for them, or a machine at the first state; it
+//! takes all memory of the run. [`Machine::step`] makes exactly the step of `dtal_code`'s machine and tells what it did: it takes no memory,
+//! tests no index, no header, no place and no target, and refuses nothing, since an accepted program is never stuck, which `dtal_safety`
+//! proves. It stands on these two, on `argument_checks`, `operation_rules`, `state_types` and `xan_lin`, and on `xan_io`.
 #![tactic(auto)]
 
-mod acceptance;
-mod act;
+mod advance;
+mod arguments;
+mod arithmetic;
+mod blocks;
+mod calls;
+mod done;
+mod entry;
 mod event;
 mod laws;
+pub mod limits;
 mod loading;
 mod machine;
-mod refusal;
+mod numbers;
+mod perform;
+mod places;
+mod run;
+mod signature;
+mod store;
+mod words;
 
-pub use acceptance::{Verified, verify};
 pub use event::Event;
-pub use laws::{
-    accepted_programs_are_safe, accepted_programs_end, entry_fits, preservation, progress,
-    refusal_is_the_first, steps_make_the_run, verdicts_exclude_each_other,
-};
+pub use laws::steps_make_the_run;
 pub use loading::LoadError;
 pub use machine::Machine;
-pub use refusal::{Rule, VerifyError, Where};
+pub use signature::main_signature;

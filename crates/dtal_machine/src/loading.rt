@@ -1,22 +1,19 @@
-ghost use Rattle.std.specs.Prelude.{◌≡◌, ◌≤◌, length, vec_len, IfOk, OnOk, IfErr};
-ghost use Rattle.dtal_code.specs.Entry.{kind_fault, arg_words, places_of};
-ghost use Rattle.dtal_machine.specs.Loading.{IsKindFault};
+//! Why a run cannot begin.
 
-use std::alloc::{AllocError, AllocFailed, Global};
-use xan_io::Arg;
+use std::alloc::{AllocError, AllocFailed};
 
 /// Why a run cannot begin, in the order in which it is looked at. Arguments and rows are numbered from 1.
-#[derive(Clone, Copy, Debug, PartialEq)]
+#[derive(Clone, Copy)]
 pub enum LoadError {
     /// Another number of arguments than of parameters.
     ArgCount,
     /// The argument is of another kind than the parameter.
     ArgKind(u32),
-    /// The argument's index is not the parameter's. A straight program asks for none.
+    /// The argument's index is not the parameter's.
     ArgIndex(u32),
-    /// A row of the entry does not hold. A straight program has none.
+    /// A row of the entry does not hold.
     EntryRow(u32),
-    /// There may be no activation.
+    /// There may be no activation, or the arguments have no room in the store.
     NoStore,
     /// Memory ran out.
     Memory,
@@ -42,34 +39,4 @@ impl<T: Drop> From<AllocFailed<T>> for LoadError {
     fn from(_error: AllocFailed<T>) -> LoadError {
         LoadError::Memory
     }
-}
-
-/// The places of the first activation: the words of the arguments, then 0.
-pub(crate) fn first_places(alloc: Global, args: &[Arg]) -> Result<Vec<i64>, LoadError>
-    requires { length args.now ≤ 8 }
-    ensures kinds { OnOk result (kind_fault 1 args.now ≡ None) }
-    ensures words { IfOk result (λ places. places.items ≡ places_of (arg_words args.now)) }
-    ensures fault { IfErr result (λ error. IsKindFault (kind_fault 1 args.now) error) }
-{
-    let mut places = words(alloc, args)?;
-    places.extend_from_slice(&[0; 256][places.len()..])?;
-    Ok(places)
-}
-
-/// The words of the arguments, all of which have to be numbers.
-fn words(alloc: Global, args: &[Arg]) -> Result<Vec<i64>, LoadError>
-    requires { length args.now ≤ 8 }
-    ensures kinds { OnOk result (kind_fault 1 args.now ≡ None) }
-    ensures words { IfOk result (λ words. words.items ≡ arg_words args.now) }
-    ensures count { IfOk result (λ words. vec_len words ≡ length args.now) }
-    ensures fault { IfErr result (λ error. IsKindFault (kind_fault 1 args.now) error) }
-{
-    let mut words = Vec::new(alloc);
-    for (index, arg) in args.iter().enumerate() {
-        match arg {
-            Arg::Int(number) => words.push(*number)?,
-            Arg::Bool(_) | Arg::Array(_) => return Err(LoadError::ArgKind(index as u32 + 1)),
-        }
-    }
-    Ok(words)
 }

@@ -28,7 +28,7 @@ use Rattle.dtal_text.specs.LineReading.{register_or_slot, place_from, typed_plac
 use Rattle.dtal_text.specs.Listings.{rising}
 use Rattle.dtal_text.specs.TypeReading.{one_type, quantifier}
 use Rattle.dtal_text.proofs.ListingLaws.{spelled-rising, spelled-some_bounded}
-use Rattle.dtal_text.proofs.StraightOperands.{register_text, slot_text}
+use Rattle.dtal_text.proofs.PlaceTexts.{register_text, slot_text}
 use Rattle.dtal_text.proofs.OperandTexts.{place_first, place_some}
 use Rattle.dtal_text.proofs.SpelledValues.{joined_by, spelled_two, spelled_made}
 use Rattle.dtal_text.proofs.SpelledTypes.{Anything, spelled-type, IsQuantified, quantified_text, spelled-quantifier}

@@ -1,10 +1,6 @@
 mod Readers
-mod StraightOperands
-mod StraightLines
+mod PlaceTexts
 mod LowerNames
-mod Headers
-mod WholeTexts
-mod ParameterLoops
 mod ChainedLists
 mod ChainLoops
 mod SpelledValues

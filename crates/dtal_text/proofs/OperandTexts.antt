@@ -26,12 +26,12 @@ use Rattle.dtal_code.specs.Spelling.{joined, list_text, truth_text, comparison_t
 use Rattle.dtal_code.specs.Text.{place_text, IsRegister, IsPlace}
 use Rattle.dtal_text.specs.declared.word.OpWord.{OpWord}
 use Rattle.dtal_text.specs.declared.word.OpWord.TheVariants as word_of
-use Rattle.dtal_text.specs.Instructions.{register, place}
+use Rattle.dtal_text.specs.Places.{register, place}
 use Rattle.dtal_text.specs.OperandCode.{listed_places}
 use Rattle.dtal_text.specs.OperandReading.{comparisons, truths, integer64, two_of, pair, three, as_array, places, value_from, edge, Way, plain, going, operands}
 use Rattle.dtal_text.specs.TypeReading.{whole_form, any_number, type_number}
 use Rattle.dtal_text.proofs.ListingLaws.{spelled-bounded, spelled-rising}
-use Rattle.dtal_text.proofs.StraightOperands.{exact-register, exact-place}
+use Rattle.dtal_text.proofs.PlaceTexts.{exact-register, exact-place}
 use Rattle.dtal_text.proofs.SpelledValues.{joined_by, spelled_two, spelled_made}
 use Rattle.dtal_text.proofs.SpelledTypes.{Anything, spelled-number, spelled-type_number, spelled-whole_form}
 

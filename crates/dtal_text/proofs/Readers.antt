@@ -1,10 +1,10 @@
--- Literals in turn, and readers that follow one another.
+-- Literals in turn.
 use Rattle.std.proofs.Common.{◌≡◌, ℕ, Bool, true, false, cond, eqb, suc, List, [], ◌∷◌, ◌++◌, length, Result, Ok, Err, refl, ap, ◌∙◌}
 use Rattle.xan_read.specs.Reader.{◌>>=◌}
 use Rattle.xan_read.specs.Combinators.{literal}
 
 -- two literals in turn are one
-pub literal-append : (a b bytes : List ℕ) → literal (a ++ b) bytes ≡ (literal a bytes >>= literal b)
+literal-append : (a b bytes : List ℕ) → literal (a ++ b) bytes ≡ (literal a bytes >>= literal b)
 unfolding literal
 literal-append [] b bytes = refl
 literal-append (c ∷ a) b [] = refl
@@ -13,14 +13,6 @@ literal-append (c ∷ a) b (d ∷ bytes) = go (eqb d c) (literal-append a b byte
     go : (t : Bool) → literal (a ++ b) bytes ≡ (literal a bytes >>= literal b) → cond t (literal (a ++ b) bytes) (Err (suc (length bytes))) ≡ (cond t (literal a bytes) (Err (suc (length bytes))) >>= literal b)
     go true more = more
     go false more = refl
-
-pub bind_assoc : {A B C : Type 0} (r : Result A ℕ) (f : A → Result B ℕ) (g : B → Result C ℕ) → (r >>= f >>= g) ≡ (r >>= λ x. f x >>= g)
-bind_assoc (Ok x) f g = refl
-bind_assoc (Err n) f g = refl
-
-pub bind_same : {A B : Type 0} (r : Result A ℕ) (f g : A → Result B ℕ) → ((x : A) → f x ≡ g x) → (r >>= f) ≡ (r >>= g)
-bind_same (Ok x) f g e = e x
-bind_same (Err n) f g e = refl
 
 pub literal_fails : (a b bytes : List ℕ) (n : ℕ) → literal a bytes ≡ Err n → literal (a ++ b) bytes ≡ Err n
 literal_fails a b bytes n e = literal-append a b bytes ∙ ap (λ (r : Result (List ℕ) ℕ). r >>= literal b) e

@@ -1,6 +1,4 @@
-pub mod StraightText
-pub mod Instructions
-pub mod Programs
+pub mod Places
 pub mod Chains
 pub mod Listings
 pub mod TypeReading

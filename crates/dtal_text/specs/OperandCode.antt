@@ -6,7 +6,7 @@ use Rattle.dtal_code.specs.declared.instruction.Op.TheVariants as op
 use Rattle.dtal_code.specs.declared.limits.TheConstants.{MOST_LISTED}
 use Rattle.dtal_text.specs.declared.word.OpWord.{OpWord}
 use Rattle.dtal_text.specs.declared.word.OpWord.TheVariants as word_of
-use Rattle.dtal_text.specs.Instructions.{place}
+use Rattle.dtal_text.specs.Places.{place}
 use Rattle.dtal_text.specs.Listings.{bounded}
 
 -- the instruction of a word over three registers

@@ -15,7 +15,7 @@ use Rattle.dtal_code.specs.declared.limits.TheConstants.{LAST_NUMBER, MOST_LISTE
 use Rattle.dtal_text.specs.declared.word.OpWord.{OpWord}
 use Rattle.dtal_text.specs.declared.word.OpWord.TheVariants as word_of
 use Rattle.dtal_text.specs.Chains.{two}
-use Rattle.dtal_text.specs.Instructions.{register, place}
+use Rattle.dtal_text.specs.Places.{register, place}
 use Rattle.dtal_text.specs.Listings.{bounded, rising}
 use Rattle.dtal_text.specs.TypeReading.{whole_form, any_number, type_number}
 

@@ -1,10 +1,10 @@
 //! Values as items of lists.
 
 ghost use Rattle.proof_lines.specs.Reading.{one_line};
-ghost use Rattle.dtal_text.specs.Instructions.{place};
+ghost use Rattle.dtal_text.specs.Places.{place};
 ghost use Rattle.dtal_text.specs.TypeReading.{whole_form, one_type};
 
-use crate::instruction::read_place;
+use crate::places::read_place;
 use crate::types::read_ty;
 use proof_lines::{Line, read_form, read_line};
 use state_types::Ty;

@@ -1,9 +1,9 @@
 //! The reader of the assembly language's text.
 //!
-//! The reading of whole programs is a function here, and its law joins it to the text of `dtal_code`: what is read is spelled so, what is
-//! spelled so is read, and where reading fails the place is told by the language alone. The code reads straight programs so far:
-//! [`read_straight`] answers the one program that the bytes spell, or that they spell none. Each production is a reader of `xan_read`,
-//! and a function that gives what the reader gives. [`read_chain`] reads lists in which what an item may be hangs on those before it.
+//! The reading of programs is a function here, and its law joins it to the text of `dtal_code`: what is read is spelled so, what is
+//! spelled so is read, and where reading fails the place is told by the language alone. [`read`] answers the one program that the bytes
+//! spell, or where they stop to begin one. Each production is a reader of `xan_read`, and a function that gives what the reader gives.
+//! [`read_chain`] reads lists in which what an item may be hangs on those before it.
 #![tactic(auto)]
 
 mod body;
@@ -11,17 +11,14 @@ mod bounded;
 mod building;
 mod chain;
 mod edges;
-mod error;
-mod header;
-mod instruction;
 mod items;
 mod labels;
 mod laws;
 mod line;
 mod listed;
-mod mnemonic;
+mod names;
 mod operands;
-mod program;
+mod places;
 mod signatures;
 mod tables;
 mod text_error;
@@ -33,10 +30,8 @@ mod words;
 
 pub use bounded::Bounded;
 pub use chain::{Chained, read_chain};
-pub use error::StraightError;
 pub use laws::program_texts_are_read;
 pub use line::{BodyLine, Lines, Stand, Which};
-pub use program::read_straight;
 pub use text_error::TextError;
 pub use unbounded::Unbounded;
 pub use whole::read;

@@ -2,7 +2,7 @@
 
 ghost use Rattle.std.specs.Prelude.{◌≡◌, ◌≤◌, [], length};
 ghost use Rattle.xan_read.specs.Code.{Gives, Reads};
-ghost use Rattle.dtal_text.specs.Instructions.{register};
+ghost use Rattle.dtal_text.specs.Places.{register};
 ghost use Rattle.dtal_text.specs.OperandReading.{two_of, pair, three, places, on_three, operands};
 ghost use Rattle.dtal_text.specs.OperandCode.{three_op, listed_places};
 ghost use Rattle.dtal_text.specs.TypeReading.{any_number};
@@ -11,8 +11,8 @@ ghost use Rattle.dtal_text.specs.declared.word.OpWord.TheVariants as word_of;
 use crate::bounded::Bounded;
 use crate::chain::read_chain;
 use crate::edges::read_edge;
-use crate::instruction::{read_place, read_register};
 use crate::items::PlaceItem;
+use crate::places::{read_place, read_register};
 use crate::tables::{read_comparison, read_truth};
 use crate::types::{read_any_number, read_type_number};
 use crate::word::OpWord;

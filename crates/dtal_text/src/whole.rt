@@ -8,7 +8,7 @@ ghost use Rattle.dtal_text.specs.ProgramReading.{function, program};
 ghost use Rattle.dtal_text.specs.WholeText.{Refuses, told_of};
 
 use crate::body::read_blocks;
-use crate::header::read_name;
+use crate::names::read_name;
 use crate::signatures::{TypeLine, read_signature};
 use crate::text_error::TextError;
 use dtal_code::limits::{LAST_NUMBER, MOST_TYPES};

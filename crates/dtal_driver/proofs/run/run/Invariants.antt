@@ -1,5 +1,5 @@
 use Rattle.std.proofs.Common.{◌-◌, []}
-use Rattle.object_machine.specs.Steps.{run_on}
+use Rattle.dtal_machine.specs.Steps.{run_on}
 use Rattle.dtal_driver.proofs.MachineRuns.{RunsOn}
 use Rattle.dtal_driver.proofs.run.run.Given as goal
 

@@ -1,4 +1,4 @@
-use Rattle.dtal_machine.proofs.MachineSteps.{run-begins, run-live, run-spent, run-without_store, run-going, run-print, run-returned, run-no_store, run-overflow}
+use Rattle.dtal_machine.proofs.DrivenMachines.{run-begins, run-live, run-spent, run-without_store, run-going, run-print, run-returned, run-no_store, run-overflow}
 use Rattle.dtal_machine.proofs.laws.steps_make_the_run.Goals as goal
 
 pub returns : goal.returns
