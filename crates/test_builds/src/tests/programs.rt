@@ -112,12 +112,7 @@ const RUNS: &[(&[u8], &[&str], u8, &[u8])] = &[
     (SHARED, &[], 0, b"9\n"),
     (QUOTIENT, &["int=-7"], 0, b"-4\n1\n"),
     (QUOTIENT, &["int=7"], 0, b"3\n1\n"),
-    (
-        ENDLESS,
-        &["--steps", "20"],
-        15,
-        b"1\n1\n1\n1\nsteps ended: 20\n",
-    ),
+    (ENDLESS, &["--steps", "20"], 15, b"1\n1\nsteps ended: 20\n"),
     (SMALL_ONLY, &["int=4"], 0, b"4\n"),
     (SMALL_ONLY, &["int=5"], 12, b"entry: row 1\n"),
     (
