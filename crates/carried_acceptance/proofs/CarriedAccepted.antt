@@ -26,7 +26,7 @@ use Rattle.lowered_acceptance.proofs.LoweredHeaded.{lowered_main}
 use Rattle.lowered_acceptance.proofs.LoweredTexts.{lowered_texts}
 use Rattle.lowered_acceptance.proofs.SlotsAcceptable.{reads_small}
 use Rattle.lowered_acceptance.proofs.SlottedAccepted.{lowered_accepted, short_code}
-use Rattle.carrier_laws.proofs.FunctionsTyped.{carried_typed}
+use Rattle.carrier_laws.proofs.CarriedFunctions.{carried_typed}
 use Rattle.carried_acceptance.specs.SlottedCarried.{IsCarriedWhole, places_of, places_at}
 use Rattle.carried_acceptance.proofs.CodeRanged.{present}
 use Rattle.carried_acceptance.proofs.ProgramRanged.{carried_ranged, carried_slotted}

@@ -5,12 +5,9 @@ pub mod TextedBlocks
 pub mod ProgramTexted
 pub mod TextedEdges
 pub mod LinesWritten
-pub mod InstructionNumbers
-pub mod NumbersWritten
 pub mod FewEmitted
 pub mod CodeRanged
 pub mod LabelsRanged
 pub mod FunctionsRanged
 pub mod ProgramRanged
 pub mod CarriedAccepted
-pub mod ReadNumbers

@@ -1,3 +1,2 @@
-pub mod WordedCores
 pub mod WrittenParts
 pub mod SlottedCarried

@@ -1,21 +1,14 @@
 //! What is granted of carried code.
 
 ghost use Rattle.std.specs.Prelude.{◌≡◌, true, nat_lt};
-ghost use Rattle.std.specs.List.{All};
-ghost use Rattle.xanadu_tree.specs.PlainOf.{plain_core};
-ghost use Rattle.xanadu_tree.specs.Shaped.{Shaped};
 ghost use Rattle.three_address.specs.declared.assignment.Assignment.{Assignment};
 ghost use Rattle.three_address.specs.declared.typed.Typed.{Typed};
-ghost use Rattle.typed_core.specs.Proving.{ElaboratedParts, IsElaboration, ProvedParts};
-ghost use Rattle.lowering.specs.Emitted.{HasFew};
-ghost use Rattle.lowering.specs.Lowered.{lowered};
+ghost use Rattle.typed_core.specs.Proving.{ProvedParts};
 ghost use Rattle.dtal_code.specs.Acceptance.{Accepted};
 ghost use Rattle.dtal_code.specs.Grammar.{InGrammar};
 ghost use Rattle.dtal_emit.specs.Emitted.{emitted};
 ghost use Rattle.emission_laws.specs.FollowedRuns.{AreReady};
 ghost use Rattle.carried_acceptance.specs.SlottedCarried.{IsCarriedWhole, places_at};
-ghost use Rattle.carried_acceptance.specs.WordedCores.{IsWorded};
-ghost use Rattle.carried_acceptance.specs.WrittenParts.{HaveNumbers};
 
 /// The program that becomes of carried code, with each place in a slot of its own, is accepted, and is of the grammar.
 pub fn carried_programs_are_accepted()
@@ -28,10 +21,4 @@ pub fn carried_programs_are_accepted()
 pub fn carried_programs_are_ready()
     ensures { (program : ProvedParts) (typed : Typed) (homes : Assignment) → IsCarriedWhole program typed homes
         → AreReady typed homes (λ number at place. nat_lt place (places_at typed number) ≡ true) }
-{}
-
-/// The numbers of a source's code are those of their types in memory, where the literals of its core are words of 64 bits.
-pub fn worded_cores_have_numbers()
-    ensures { (base : ElaboratedParts) → Shaped (plain_core base.core) → IsElaboration base.core base.made → IsWorded (plain_core base.core) → All HasFew (lowered base).funs
-        → All HaveNumbers (lowered base).funs }
 {}

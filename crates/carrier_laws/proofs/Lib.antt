@@ -57,7 +57,7 @@ pub mod BodiesTyped
 pub mod FunctionsCarried
 pub mod ProgramsTyped
 pub mod WholeTyped
-pub mod FunctionsTyped
+pub mod CarriedFunctions
 pub mod GroundsFound
 pub mod StartsFound
 pub mod SimpleTyped

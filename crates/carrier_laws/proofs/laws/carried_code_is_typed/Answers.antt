@@ -1,4 +1,4 @@
-use Rattle.carrier_laws.proofs.FunctionsTyped.{carried_typed}
+use Rattle.carrier_laws.proofs.CarriedFunctions.{carried_typed}
 use Rattle.carrier_laws.proofs.laws.carried_code_is_typed.Goals as goal
 
 pub returns : goal.returns
