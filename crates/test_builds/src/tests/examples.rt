@@ -65,62 +65,79 @@ fn source_of(example: Example) -> &'static [u8] {
 
 /// Programs, the words of a run of their text, and the numbers that it prints, the one that it returns last.
 const RUNS: &[(Example, &[&str], &[u8])] = &[
-    (Example::BinarySearch, &["arr=1,4,7,9", "int=7"], b"2\n"),
-    (Example::BinarySearch, &["arr=1,4,7,9", "int=5"], b"-1\n"),
+    (
+        Example::BinarySearch,
+        &["run", "out", "arr=1,4,7,9", "int=7"],
+        b"2\n",
+    ),
+    (
+        Example::BinarySearch,
+        &["run", "out", "arr=1,4,7,9", "int=5"],
+        b"-1\n",
+    ),
     (
         Example::InsertionSort,
-        &["arr=5,-1,3,3,0"],
+        &["run", "out", "arr=5,-1,3,3,0"],
         b"-1\n0\n3\n3\n5\n5\n",
     ),
     (
         Example::PrefixSums,
-        &["arr=1,2,3,4,5", "int=1", "int=4"],
+        &["run", "out", "arr=1,2,3,4,5", "int=1", "int=4"],
         b"9\n",
     ),
     (
         Example::PrefixSums,
-        &["arr=1,2,3", "int=2", "int=9"],
+        &["run", "out", "arr=1,2,3", "int=2", "int=9"],
         b"0\n",
     ),
     (
         Example::MatrixProduct,
-        &["arr=1,2,3,4,5,6,7,8,9", "arr=9,8,7,6,5,4,3,2,1"],
+        &[
+            "run",
+            "out",
+            "arr=1,2,3,4,5,6,7,8,9",
+            "arr=9,8,7,6,5,4,3,2,1",
+        ],
         b"30\n24\n18\n84\n69\n54\n138\n114\n90\n9\n",
     ),
     (
         Example::StringSearch,
-        &["arr=1,2,1,2,3,4", "arr=1,2,3"],
+        &["run", "out", "arr=1,2,1,2,3,4", "arr=1,2,3"],
         b"2\n",
     ),
-    (Example::StringSearch, &["arr=1,2,1,2", "arr=2,2"], b"-1\n"),
+    (
+        Example::StringSearch,
+        &["run", "out", "arr=1,2,1,2", "arr=2,2"],
+        b"-1\n",
+    ),
     (
         Example::RingBuffer,
-        &["arr=1,2,3,4,0,5,0,0,-1,6"],
+        &["run", "out", "arr=1,2,3,4,0,5,0,0,-1,6"],
         b"1\n2\n3\n5\n1\n",
     ),
     (
         Example::GreatestCommonDivisor,
-        &["int=1071", "int=462"],
+        &["run", "out", "int=1071", "int=462"],
         b"21\n",
     ),
     (
         Example::GreatestCommonDivisor,
-        &["int=-8", "int=12"],
+        &["run", "out", "int=-8", "int=12"],
         b"12\n",
     ),
     (
         Example::Heap,
-        &["arr=5,3,8,1,9,2"],
+        &["run", "out", "arr=5,3,8,1,9,2"],
         b"1\n2\n3\n5\n8\n9\n9\n",
     ),
     (
         Example::UnionFind,
-        &["int=6", "arr=0,1,4,2,7", "arr=1,2,5,0,1"],
+        &["run", "out", "int=6", "arr=0,1,4,2,7", "arr=1,2,5,0,1"],
         b"3\n",
     ),
     (
         Example::RunLengthCoding,
-        &["arr=7,7,7,1,2,2"],
+        &["run", "out", "arr=7,7,7,1,2,2"],
         b"7\n3\n1\n1\n2\n2\n3\n",
     ),
 ];

@@ -26,7 +26,7 @@ fn is_accepted(alloc: Global, files: &mut MemFiles) -> Result<bool, Memory> {
     Ok(found == 0 && out.bytes().starts_with(b"accepted: "))
 }
 
-/// Whether a source is built, its text is accepted, and a run of it with these words behind it ends so, after these lines.
+/// Whether a source is built as `out`, its text is accepted, and a run of that by these words ends so, after these lines.
 pub fn comes_to(
     alloc: Global,
     source: &[u8],
@@ -38,10 +38,7 @@ pub fn comes_to(
     files.set("in", source)?;
     let mut out = MemSink::new(alloc, 1000, Vec::new(alloc))?;
     let built = xanadu_top(alloc, &["build", "in", "out"], &mut files, &mut out);
-    let mut run = Vec::from_slice(alloc, &["run", "out"])?;
-    run.extend_from_slice(words)?;
-    let right = is_accepted(alloc, &mut files)?
-        && answers(alloc, &mut files, run.as_slice(), status, said)?;
+    let right = is_accepted(alloc, &mut files)? && answers(alloc, &mut files, words, status, said)?;
     Ok(built == 0 && right)
 }
 
@@ -86,45 +83,90 @@ const SAME_LENGTH: &[u8] = b"fun main{n: nat}(a: int[n], b: int[n]): int { retur
 
 /// Sources, the words of a run of their text, and how it ends: its status and its lines.
 const RUNS: &[(&[u8], &[&str], u8, &[u8])] = &[
-    (ARRAY_SUM, &["arr=4,5,-2"], 0, b"7\n"),
-    (ARRAY_SUM, &["arr="], 0, b"0\n"),
-    (ARRAY_SUM, &["arr=9223372036854775807,1"], 14, b"overflow\n"),
-    (ARRAY_SUM, &["--heap", "4", "arr=1,2,3"], 13, b"no store\n"),
-    (ARRAY_SUM, &["--heap", "5", "arr=1,2,3"], 0, b"6\n"),
-    (SEARCH, &["int=7", "arr=1,4,7,9"], 0, b"2\n"),
-    (SEARCH, &["int=5", "arr=1,4,7,9"], 0, b"-1\n"),
-    (SEARCH, &["int=9", "arr=1,4,7,9"], 0, b"3\n"),
-    (SEARCH, &["int=1", "arr="], 0, b"-1\n"),
-    (TWO_EXITS, &["arr=3,4"], 0, b"102\n"),
-    (TWO_EXITS, &["arr=3,4,5,6"], 0, b"103\n"),
-    (TWO_EXITS, &["arr=3,-1,5"], 0, b"3\n"),
-    (COUNTED_DOWN, &["--depth", "4", "int=2"], 0, b"2\n"),
-    (COUNTED_DOWN, &["--depth", "3", "int=2"], 13, b"no store\n"),
-    (MAIN_AGAIN, &["int=2"], 0, b"2\n"),
-    (PRINTING, &[], 0, b"1\n2\n3\n"),
-    (PAIR, &["--heap", "4", "int=8"], 0, b"1\n"),
-    (PAIR, &["--heap", "3", "int=8"], 13, b"no store\n"),
-    (EITHER, &["bool=true", "bool=true"], 0, b"1\n"),
-    (EITHER, &["bool=false", "bool=true"], 0, b"0\n"),
-    (EITHER, &["bool=false", "bool=false"], 0, b"1\n"),
-    (FILLED, &["--heap", "7"], 0, b"13\n"),
-    (FILLED, &["--heap", "6"], 13, b"no store\n"),
-    (SHARED, &[], 0, b"9\n"),
-    (QUOTIENT, &["int=-7"], 0, b"-4\n1\n"),
-    (QUOTIENT, &["int=7"], 0, b"3\n1\n"),
-    (ENDLESS, &["--steps", "20"], 15, b"1\n1\nsteps ended: 20\n"),
-    (SMALL_ONLY, &["int=4"], 0, b"4\n"),
-    (SMALL_ONLY, &["int=5"], 12, b"entry: row 1\n"),
+    (ARRAY_SUM, &["run", "out", "arr=4,5,-2"], 0, b"7\n"),
+    (ARRAY_SUM, &["run", "out", "arr="], 0, b"0\n"),
+    (
+        ARRAY_SUM,
+        &["run", "out", "arr=9223372036854775807,1"],
+        14,
+        b"overflow\n",
+    ),
+    (
+        ARRAY_SUM,
+        &["run", "out", "--heap", "4", "arr=1,2,3"],
+        13,
+        b"no store\n",
+    ),
+    (
+        ARRAY_SUM,
+        &["run", "out", "--heap", "5", "arr=1,2,3"],
+        0,
+        b"6\n",
+    ),
+    (SEARCH, &["run", "out", "int=7", "arr=1,4,7,9"], 0, b"2\n"),
+    (SEARCH, &["run", "out", "int=5", "arr=1,4,7,9"], 0, b"-1\n"),
+    (SEARCH, &["run", "out", "int=9", "arr=1,4,7,9"], 0, b"3\n"),
+    (SEARCH, &["run", "out", "int=1", "arr="], 0, b"-1\n"),
+    (TWO_EXITS, &["run", "out", "arr=3,4"], 0, b"102\n"),
+    (TWO_EXITS, &["run", "out", "arr=3,4,5,6"], 0, b"103\n"),
+    (TWO_EXITS, &["run", "out", "arr=3,-1,5"], 0, b"3\n"),
+    (
+        COUNTED_DOWN,
+        &["run", "out", "--depth", "4", "int=2"],
+        0,
+        b"2\n",
+    ),
+    (
+        COUNTED_DOWN,
+        &["run", "out", "--depth", "3", "int=2"],
+        13,
+        b"no store\n",
+    ),
+    (MAIN_AGAIN, &["run", "out", "int=2"], 0, b"2\n"),
+    (PRINTING, &["run", "out"], 0, b"1\n2\n3\n"),
+    (PAIR, &["run", "out", "--heap", "4", "int=8"], 0, b"1\n"),
+    (
+        PAIR,
+        &["run", "out", "--heap", "3", "int=8"],
+        13,
+        b"no store\n",
+    ),
+    (EITHER, &["run", "out", "bool=true", "bool=true"], 0, b"1\n"),
+    (
+        EITHER,
+        &["run", "out", "bool=false", "bool=true"],
+        0,
+        b"0\n",
+    ),
+    (
+        EITHER,
+        &["run", "out", "bool=false", "bool=false"],
+        0,
+        b"1\n",
+    ),
+    (FILLED, &["run", "out", "--heap", "7"], 0, b"13\n"),
+    (FILLED, &["run", "out", "--heap", "6"], 13, b"no store\n"),
+    (SHARED, &["run", "out"], 0, b"9\n"),
+    (QUOTIENT, &["run", "out", "int=-7"], 0, b"-4\n1\n"),
+    (QUOTIENT, &["run", "out", "int=7"], 0, b"3\n1\n"),
+    (
+        ENDLESS,
+        &["run", "out", "--steps", "20"],
+        15,
+        b"1\n1\nsteps ended: 20\n",
+    ),
+    (SMALL_ONLY, &["run", "out", "int=4"], 0, b"4\n"),
+    (SMALL_ONLY, &["run", "out", "int=5"], 12, b"entry: row 1\n"),
     (
         SMALL_ONLY,
-        &["bool=true"],
+        &["run", "out", "bool=true"],
         12,
         b"entry: kind of argument 1\n",
     ),
-    (SMALL_ONLY, &[], 12, b"entry: count\n"),
+    (SMALL_ONLY, &["run", "out"], 12, b"entry: count\n"),
     (
         SAME_LENGTH,
-        &["arr=1", "arr=1,2"],
+        &["run", "out", "arr=1", "arr=1,2"],
         12,
         b"entry: index of argument 2\n",
     ),
