@@ -1,0 +1,2 @@
+mod ArgumentWords
+mod SortedWords
