@@ -25,7 +25,7 @@ use Rattle.dtal_machine.specs.Steps.{Loaded, run_on}
 use Rattle.dtal_machine.proofs.DrivenMachines.{run-begins, run-live}
 use Rattle.dtal_driver.specs.declared.answer.Answer.{Answer}
 use Rattle.dtal_driver.specs.declared.answer.Answer.TheVariants as answer
-use Rattle.dtal_driver.specs.declared.options.Limits.{Limits}
+use Rattle.run_options.specs.declared.options.Limits.{Limits}
 use Rattle.dtal_driver.specs.declared.run.End.{End}
 use Rattle.dtal_driver.specs.declared.run.End.TheVariants as ends
 use Rattle.dtal_driver.specs.Answers.{line_of, number_lines}
@@ -93,7 +93,7 @@ module _ (content : List ℕ → Option (List ℕ)) (text : List ℕ) (limits : 
     goes = loads.goes;
     told = λ bytes here report is.
         of_accepted content (Run text limits args) (λ _. 0) (λ _. 0) program v bytes report here
-        (ap (run_report (code_of program) limits.steps) loads.run.begins ∙ ap (ended limits.steps) loads.run.is ∙ is);
+        (ap (run_report (code_of program) limits.units) loads.run.begins ∙ ap (ended limits.units) loads.run.is ∙ is);
   }
 
 -- ---- a machine
@@ -122,13 +122,13 @@ unfolding outcome_from
 without_store code steps = refl
 
 module _ (program : DtalProgram) (limits : Limits) (args : List Arg) where
-  pub loads : RunsSafely (code_of program) (program_entry program args limits.heap limits.depth) limits.steps → (machine : Loaded)
+  pub loads : RunsSafely (code_of program) (program_entry program args limits.heap limits.depth) limits.units → (machine : Loaded)
       → loaded program args limits.heap limits.depth ≡ Ok machine → IsLoaded program limits args machine
   loads safely machine e =
-      let run = run-begins program args limits.heap limits.depth limits.steps machine e in
+      let run = run-begins program args limits.heap limits.depth limits.units machine e in
       record {
         live = run-live program args limits.heap limits.depth machine e;
-        goes = goes_as program args limits.heap limits.depth limits.steps _ run safely;
+        goes = goes_as program args limits.heap limits.depth limits.units _ run safely;
         run = run;
       }
 
@@ -137,13 +137,13 @@ module _ (program : DtalProgram) (limits : Limits) (args : List Arg) where
   unbegun-from (Ok None) error is e =
       let same : load.NoStore ≡ error = cc in
       subst (λ error'. IsUnbegun program limits args (of_load error')) same
-      (record { of_text = tt; is = ap (run_report (code_of program) limits.steps) is ∙ without_store (code_of program) limits.steps })
+      (record { of_text = tt; is = ap (run_report (code_of program) limits.units) is ∙ without_store (code_of program) limits.units })
   unbegun-from (Ok (Some state)) error is e = cc
   unbegun-from (Err fault) error is e =
       let same : fault_error fault ≡ error = cc in
       let answered : fault_answer fault ≡ of_load error = sym (fault-answered fault) ∙ ap of_load same in
       subst (IsUnbegun program limits args) answered
-      (record { of_text = fault-of_text fault; is = ap (run_report (code_of program) limits.steps) is })
+      (record { of_text = fault-of_text fault; is = ap (run_report (code_of program) limits.units) is })
 
   -- an error of a load is the fault of the arguments, or that there is no store for them, or memory ran out
   pub not_loaded : (error : LoadError) → Loads (loaded program args limits.heap limits.depth) (Err error) → IsNotLoaded program limits args (of_load error)
@@ -236,7 +236,7 @@ module _ (meant : Option Meant) (command : Meant) (is : meant ≡ Some command) 
 
 pub went-run : (meant : Option Meant) (text : List ℕ) (limits : Limits) (args : List Arg) (content : List ℕ → Option (List ℕ)) (reads reads' : List ℕ → ℕ) (machine : Loaded)
     (status faults faults' : ℕ) (out out' : Option (List ℕ)) → meant ≡ Some (Run text limits args) → IsLoadedFrom text limits args (content text) machine
-    → RunSaid limits.steps (run_on machine limits.steps []) status faults faults' out out' → Went meant content reads reads' status faults faults' out out'
+    → RunSaid limits.units (run_on machine limits.units []) status faults faults' out out' → Went meant content reads reads' status faults faults' out out'
 went-run meant text limits args content reads reads' machine status faults faults' out out' is from run = record {
   report = run.report;
   cause = Told (record { command = Run text limits args; is = is; of_text = run.of_text; told = λ bytes here. from.told bytes here run.report run.is });

@@ -1,9 +1,7 @@
-pub mod ArgumentWords
 pub mod Commands
 pub mod InstructionCounts
 pub mod LineParts
 pub mod Promises
 pub mod Reports
 pub mod MachineRuns
-pub mod SortedWords
 pub mod Statuses

@@ -15,7 +15,7 @@ use Rattle.dtal_code.specs.Runs.{program_entry, outcome_from}
 use Rattle.dtal_code.specs.Safety.{RunsSafely}
 use Rattle.dtal_code.proofs.VerifiedPrograms.{verified_is_accepted, accepted_is_verified}
 use Rattle.dtal_driver.specs.declared.answer.Answer.TheVariants as answer
-use Rattle.dtal_driver.specs.declared.options.Limits.{Limits}
+use Rattle.run_options.specs.declared.options.Limits.{Limits}
 use Rattle.dtal_driver.specs.declared.run.End.{End}
 use Rattle.dtal_driver.specs.declared.run.End.TheVariants as ends
 use Rattle.dtal_driver.specs.Answers.{status_of}
@@ -59,7 +59,7 @@ module _ (command : Meant) (bytes : List ℕ) (report : Report) where
     too_long (Accepts name verifies program text states walked is) e = absurd (omega (arith, own _ is, e))
     too_long (IsFaulty name limits args runs program text states walked fault found is) e = absurd (omega (arith, own _ is, e, fault-twelve fault))
     too_long (Runs name limits args runs program text states walked entry end begins how is) e =
-        absurd (not_ended limits.steps end 5 (own _ is) e (λ f. omega (arith, f)) (λ f. omega (arith, f)) (λ f. omega (arith, f)) (λ f. omega (arith, f)))
+        absurd (not_ended limits.units end 5 (own _ is) e (λ f. omega (arith, f)) (λ f. omega (arith, f)) (λ f. omega (arith, f)) (λ f. omega (arith, f)))
 
     no_program : Way command bytes report → status_of report.answer ≡ 7 → NoProgramAt bytes out out'
     no_program (TooLong long is) e = absurd (omega (arith, own _ is, e))
@@ -68,7 +68,7 @@ module _ (command : Meant) (bytes : List ℕ) (report : Report) where
     no_program (Accepts name verifies program text states walked is) e = absurd (omega (arith, own _ is, e))
     no_program (IsFaulty name limits args runs program text states walked fault found is) e = absurd (omega (arith, own _ is, e, fault-twelve fault))
     no_program (Runs name limits args runs program text states walked entry end begins how is) e =
-        absurd (not_ended limits.steps end 7 (own _ is) e (λ f. omega (arith, f)) (λ f. omega (arith, f)) (λ f. omega (arith, f)) (λ f. omega (arith, f)))
+        absurd (not_ended limits.units end 7 (own _ is) e (λ f. omega (arith, f)) (λ f. omega (arith, f)) (λ f. omega (arith, f)) (λ f. omega (arith, f)))
 
     refused_at : Way command bytes report → status_of report.answer ≡ 11 → RefusedAt bytes out out'
     refused_at (TooLong long is) e = absurd (omega (arith, own _ is, e))
@@ -77,7 +77,7 @@ module _ (command : Meant) (bytes : List ℕ) (report : Report) where
     refused_at (Accepts name verifies program text states walked is) e = absurd (omega (arith, own _ is, e))
     refused_at (IsFaulty name limits args runs program text states walked fault found is) e = absurd (omega (arith, own _ is, e, fault-twelve fault))
     refused_at (Runs name limits args runs program text states walked entry end begins how is) e =
-        absurd (not_ended limits.steps end 11 (own _ is) e (λ f. omega (arith, f)) (λ f. omega (arith, f)) (λ f. omega (arith, f)) (λ f. omega (arith, f)))
+        absurd (not_ended limits.units end 11 (own _ is) e (λ f. omega (arith, f)) (λ f. omega (arith, f)) (λ f. omega (arith, f)) (λ f. omega (arith, f)))
 
     faulty_at : Way command bytes report → status_of report.answer ≡ 12 → FaultyAt command bytes out out'
     faulty_at (TooLong long is) e = absurd (omega (arith, own _ is, e))
@@ -97,13 +97,13 @@ module _ (command : Meant) (bytes : List ℕ) (report : Report) where
       said = says _ is;
     }
     faulty_at (Runs name limits args runs program text states walked entry end begins how is) e =
-        absurd (not_ended limits.steps end 12 (own _ is) e (λ f. omega (arith, f)) (λ f. omega (arith, f)) (λ f. omega (arith, f)) (λ f. omega (arith, f)))
+        absurd (not_ended limits.units end 12 (own _ is) e (λ f. omega (arith, f)) (λ f. omega (arith, f)) (λ f. omega (arith, f)) (λ f. omega (arith, f)))
 
     module _ (safely : RunSafely) where
       ran_to : (name : List ℕ) (limits : Limits) (args : List Arg) (program : DtalProgram) (states : List (List StateType)) (entry : Option State) (end : End)
           → command ≡ Run name limits args → IsText bytes program → verified program ≡ Ok states → program_entry program args limits.heap limits.depth ≡ Ok entry
-          → (outcome_from (code_of program) entry limits.steps).how ≡ how_of end
-          → report ≡ record { printed = (outcome_from (code_of program) entry limits.steps).printed; answer = answer_of limits.steps end } → RanTo command bytes end out out'
+          → (outcome_from (code_of program) entry limits.units).how ≡ how_of end
+          → report ≡ record { printed = (outcome_from (code_of program) entry limits.units).printed; answer = answer_of limits.units end } → RanTo command bytes end out out'
       ran_to name limits args program states entry end runs text walked begins how is = record {
         name = name;
         limits = limits;
@@ -126,7 +126,7 @@ module _ (command : Meant) (bytes : List ℕ) (report : Report) where
       without_store (Accepts name verifies program text states walked is) e = absurd (omega (arith, own _ is, e))
       without_store (IsFaulty name limits args runs program text states walked fault found is) e = absurd (omega (arith, own _ is, e, fault-twelve fault))
       without_store (Runs name limits args runs program text states walked entry end begins how is) e =
-          subst (λ x. RanTo command bytes x out out') (end-no_store limits.steps end (sym (own _ is) ∙ e)) (ran_to name limits args program states entry end runs text walked begins how is)
+          subst (λ x. RanTo command bytes x out out') (end-no_store limits.units end (sym (own _ is) ∙ e)) (ran_to name limits args program states entry end runs text walked begins how is)
 
       with_overflow : Way command bytes report → status_of report.answer ≡ 14 → RanTo command bytes ends.Overflow out out'
       with_overflow (TooLong long is) e = absurd (omega (arith, own _ is, e))
@@ -135,7 +135,7 @@ module _ (command : Meant) (bytes : List ℕ) (report : Report) where
       with_overflow (Accepts name verifies program text states walked is) e = absurd (omega (arith, own _ is, e))
       with_overflow (IsFaulty name limits args runs program text states walked fault found is) e = absurd (omega (arith, own _ is, e, fault-twelve fault))
       with_overflow (Runs name limits args runs program text states walked entry end begins how is) e =
-          subst (λ x. RanTo command bytes x out out') (end-overflow limits.steps end (sym (own _ is) ∙ e)) (ran_to name limits args program states entry end runs text walked begins how is)
+          subst (λ x. RanTo command bytes x out out') (end-overflow limits.units end (sym (own _ is) ∙ e)) (ran_to name limits args program states entry end runs text walked begins how is)
 
       steps_spent : Way command bytes report → status_of report.answer ≡ 15 → RanTo command bytes ends.Spent out out'
       steps_spent (TooLong long is) e = absurd (omega (arith, own _ is, e))
@@ -144,7 +144,7 @@ module _ (command : Meant) (bytes : List ℕ) (report : Report) where
       steps_spent (Accepts name verifies program text states walked is) e = absurd (omega (arith, own _ is, e))
       steps_spent (IsFaulty name limits args runs program text states walked fault found is) e = absurd (omega (arith, own _ is, e, fault-twelve fault))
       steps_spent (Runs name limits args runs program text states walked entry end begins how is) e =
-          subst (λ x. RanTo command bytes x out out') (end-spent limits.steps end (sym (own _ is) ∙ e)) (ran_to name limits args program states entry end runs text walked begins how is)
+          subst (λ x. RanTo command bytes x out out') (end-spent limits.units end (sym (own _ is) ∙ e)) (ran_to name limits args program states entry end runs text walked begins how is)
 
       -- a report with the status of an end is that of a run
       no_end : (number : ℕ) (Whole : Type 0) → IsEndOfRun (status_of report.answer) → status_of report.answer ≡ number → number ≢ 0 → number ≢ 13 → number ≢ 14 → number ≢ 15 → Whole

@@ -19,7 +19,7 @@ use Rattle.dtal_code.specs.Refusing.{verified}
 use Rattle.dtal_code.specs.Runs.{program_entry, outcome_from}
 use Rattle.dtal_text.specs.WholeText.{IsSpelled}
 use Rattle.dtal_driver.specs.declared.answer.Answer.TheVariants as answer
-use Rattle.dtal_driver.specs.declared.options.Limits.{Limits}
+use Rattle.run_options.specs.declared.options.Limits.{Limits}
 use Rattle.dtal_driver.specs.declared.run.End.{End}
 use Rattle.dtal_driver.specs.declared.run.End.TheVariants as ends
 use Rattle.dtal_driver.specs.Causes.{IsText, IsNoProgram, IsRefusedProgram}
@@ -94,8 +94,8 @@ pub data Way (command : Meant) (bytes : List ℕ) (report : Report) : Type 0 whe
       → (report ≡ plain (fault_answer fault)) → Way command bytes report
   Runs : (name : List ℕ) (limits : Limits) (args : List Arg) → (command ≡ Run name limits args) → (program : DtalProgram) → IsText bytes program
       → (states : List (List StateType)) → (verified program ≡ Ok states) → (entry : Option State) (end : End) → (program_entry program args limits.heap limits.depth ≡ Ok entry)
-      → ((outcome_from (code_of program) entry limits.steps).how ≡ how_of end)
-      → (report ≡ record { printed = (outcome_from (code_of program) entry limits.steps).printed; answer = answer_of limits.steps end }) → Way command bytes report
+      → ((outcome_from (code_of program) entry limits.units).how ≡ how_of end)
+      → (report ≡ record { printed = (outcome_from (code_of program) entry limits.units).printed; answer = answer_of limits.units end }) → Way command bytes report
 
 end-way : (steps : ℕ) (printed : List ℤ) (how : How) (report : Report) → option_map (λ end. record { printed = printed; answer = answer_of steps end }) (end_of how) ≡ Some report
     → (end : End) × (how ≡ how_of end) × (report ≡ record { printed = printed; answer = answer_of steps end })
@@ -107,10 +107,10 @@ end-way steps printed how.Stuck report e = absurd (none-some report e)
 
 module _ (bytes : List ℕ) (report : Report) (program : DtalProgram) (text : IsText bytes program) (states : List (List StateType)) (walked : verified program ≡ Ok states) where
   run-way : (name : List ℕ) (limits : Limits) (args : List Arg) (found : Result (Option State) EntryFault) → program_entry program args limits.heap limits.depth ≡ found
-      → run_report (code_of program) limits.steps found ≡ Some report → Way (Run name limits args) bytes report
+      → run_report (code_of program) limits.units found ≡ Some report → Way (Run name limits args) bytes report
   run-way name limits args (Ok entry) begins e =
-      let outcome = outcome_from (code_of program) entry limits.steps in
-      let way = end-way limits.steps outcome.printed outcome.how report e in
+      let outcome = outcome_from (code_of program) entry limits.units in
+      let way = end-way limits.units outcome.printed outcome.how report e in
       Runs name limits args refl program text states walked entry way.0 begins way.1 way.2
   run-way name limits args (Err fault) found e = IsFaulty name limits args refl program text states walked fault found (sym (one_some _ report e))
 

@@ -17,7 +17,7 @@ use Rattle.dtal_machine.specs.Loading.{IsRunOf}
 use Rattle.dtal_machine.specs.Steps.{Loaded, IsLive, run_on}
 use Rattle.dtal_driver.specs.declared.answer.Answer.{Answer}
 use Rattle.dtal_driver.specs.declared.answer.Answer.TheVariants as answer
-use Rattle.dtal_driver.specs.declared.options.Limits.{Limits}
+use Rattle.run_options.specs.declared.options.Limits.{Limits}
 use Rattle.dtal_driver.specs.Answers.{status_of}
 use Rattle.dtal_driver.specs.Report.{Report, Reports, plain, ended, ran_report, report_text}
 use Rattle.dtal_driver.specs.VerifiedTexts.{text_most}
@@ -69,8 +69,8 @@ IsOfText _ = Unit {0}
 -- The machine is at the start of the program's run on these arguments, which is not stuck after its steps.
 pub record IsLoaded (program : DtalProgram) (limits : Limits) (args : List Arg) (machine : Loaded) : Type 0 where
   pub live : IsLive machine.now
-  pub goes : (run_on machine limits.steps []).how ≢ Stuck
-  pub run : IsRunOf program args limits.heap limits.depth limits.steps (run_on machine limits.steps [])
+  pub goes : (run_on machine limits.units []).how ≢ Stuck
+  pub run : IsRunOf program args limits.heap limits.depth limits.units (run_on machine limits.units [])
 
 -- this answer is reported in place of a run: the fault of the arguments, or that there is no store for them
 pub record IsUnbegun (program : DtalProgram) (limits : Limits) (args : List Arg) (said : Answer) : Type 0 where
@@ -84,8 +84,8 @@ IsNotLoaded program limits args said = (said ≡ answer.Memory) ⊎ IsUnbegun pr
 -- the machine is at the start of a run, and where the content is told, its run is reported of the text
 pub record IsLoadedFrom (text : List ℕ) (limits : Limits) (args : List Arg) (content : Option (List ℕ)) (machine : Loaded) : Type 0 where
   pub live : IsLive machine.now
-  pub goes : (run_on machine limits.steps []).how ≢ Stuck
-  pub told : (bytes : List ℕ) → content ≡ Some bytes → (report : Report) → ended limits.steps (run_on machine limits.steps []) ≡ Some report
+  pub goes : (run_on machine limits.units []).how ≢ Stuck
+  pub told : (bytes : List ℕ) → content ≡ Some bytes → (report : Report) → ended limits.units (run_on machine limits.units []) ≡ Some report
       → Reports (Run text limits args) bytes report
 
 -- ---- whole commands

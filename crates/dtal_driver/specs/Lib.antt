@@ -1,6 +1,5 @@
 pub mod Answers
 pub mod Causes
-pub mod Options
 pub mod Promises
 pub mod Report
 pub mod Stops

@@ -14,7 +14,7 @@ use Rattle.dtal_code.specs.ObjectCode.{code_of}
 use Rattle.dtal_code.specs.Runs.{program_entry, outcome_from}
 use Rattle.dtal_code.specs.Safety.{RunsSafely}
 use Rattle.dtal_driver.specs.declared.answer.Answer.TheVariants as answer
-use Rattle.dtal_driver.specs.declared.options.Limits.{Limits}
+use Rattle.run_options.specs.declared.options.Limits.{Limits}
 use Rattle.dtal_driver.specs.declared.run.End.{End}
 use Rattle.dtal_driver.specs.Answers.{status_of, line_of, number_lines, refused_line, accepted_line}
 use Rattle.dtal_driver.specs.Causes.{Cause, IsText, IsNoProgram, IsRefusedProgram}
@@ -89,15 +89,15 @@ pub record RanTo (command : Meant) (bytes : List ℕ) (end : End) (out out' : Op
   pub accepted : Accepted program
   pub entry : Option State
   pub begins : program_entry program args limits.heap limits.depth ≡ Ok entry
-  pub ends : (outcome_from (code_of program) entry limits.steps).how ≡ how_of end
+  pub ends : (outcome_from (code_of program) entry limits.units).how ≡ how_of end
   pub safe : (steps : ℕ) → RunsSafely (code_of program) (program_entry program args limits.heap limits.depth) steps
-  pub said : out' ≡ append_known out (number_lines (outcome_from (code_of program) entry limits.steps).printed ++ line_of (answer_of limits.steps end))
+  pub said : out' ≡ append_known out (number_lines (outcome_from (code_of program) entry limits.units).printed ++ line_of (answer_of limits.units end))
 
 -- in one way or the other
 pub record Ran (command : Meant) (bytes : List ℕ) (status : ℕ) (out out' : Option (List ℕ)) : Type 0 where
   pub end : End
   pub ran : RanTo command bytes end out out'
-  pub status_is : status ≡ status_of (answer_of ran.limits.steps end)
+  pub status_is : status ≡ status_of (answer_of ran.limits.units end)
 
 -- The program of the text is accepted, every run of it is safe after every number of steps, and the line counts its functions and their
 -- instructions.

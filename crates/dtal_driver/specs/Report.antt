@@ -15,7 +15,7 @@ use Rattle.dtal_code.specs.Runs.{program_entry, outcome_from}
 use Rattle.dtal_text.specs.WholeText.{IsSpelled}
 use Rattle.dtal_driver.specs.declared.answer.Answer.{Answer}
 use Rattle.dtal_driver.specs.declared.answer.Answer.TheVariants as answer
-use Rattle.dtal_driver.specs.declared.options.Limits.{Limits}
+use Rattle.run_options.specs.declared.options.Limits.{Limits}
 use Rattle.dtal_driver.specs.declared.run.End.{End}
 use Rattle.dtal_driver.specs.declared.run.End.TheVariants as ends
 use Rattle.dtal_driver.specs.Answers.{line_of, number_lines}
@@ -74,7 +74,7 @@ run_report code steps (Ok entry) = ended steps (outcome_from code entry steps)
 
 -- what is reported of an accepted program that is run within limits on arguments
 abbrev pub ran_report : DtalProgram → Limits → List Arg → Option Report
-ran_report program limits args = run_report (code_of program) limits.steps (program_entry program args limits.heap limits.depth)
+ran_report program limits args = run_report (code_of program) limits.units (program_entry program args limits.heap limits.depth)
 
 -- ---- texts
 

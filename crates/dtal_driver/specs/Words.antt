@@ -2,14 +2,15 @@
 use Rattle.std.specs.Prelude.{ℕ, List, [], ◌∷◌, codes, Option, Some, None, option_map, if◌then◌else◌}
 use Rattle.std.specs.Str.{bytes_eq}
 use Rattle.xan_io.specs.declared.arg.Arg.{Arg}
-use Rattle.xan_io.specs.Arguments.{arg_of}
-use Rattle.xan_io.specs.Words.{texts}
-use Rattle.dtal_driver.specs.declared.options.Given.{Given}
-use Rattle.dtal_driver.specs.declared.options.Limits.{Limits}
+use Rattle.dtal_machine.specs.declared.limits.TheConstants.{MOST_HEAP, MOST_DEPTH}
+use Rattle.run_options.specs.declared.limits.TheConstants.{HEAP, DEPTH, UNITS, MOST_UNITS}
+use Rattle.run_options.specs.declared.options.Given.{Given}
+use Rattle.run_options.specs.declared.options.Limits.{Limits}
+use Rattle.run_options.specs.Options as options
+use Rattle.run_options.specs.Options.{Rules, Sorted, sorted, none_yet, none_given}
+use Rattle.run_options.specs.Requests.{Requested, requested}
 use Rattle.dtal_driver.specs.declared.words.Command.{Command}
 use Rattle.dtal_driver.specs.declared.words.Command.TheVariants as command
-use Rattle.dtal_driver.specs.declared.words.Sorted as made
-use Rattle.dtal_driver.specs.Options.{Sorted, sorted, none_yet, none_given, limits_of, IsWithin}
 
 -- to verify the text of a name, or to run it within limits on these arguments
 pub data Meant : Type 0 where
@@ -21,23 +22,32 @@ abbrev pub text_of : Meant → List ℕ
 text_of (Verify text) = text
 text_of (Run text limits args) = text
 
--- the arguments that words spell, all of which have to spell one
-abbrev pub with_arg : Option Arg → Option (List Arg) → Option (List Arg)
-with_arg None args = None
-with_arg (Some arg) args = option_map (λ others. arg ∷ others) args
+-- what a run may have where nothing is said
+abbrev pub usual : Limits
+usual = record { heap = HEAP; depth = DEPTH; units = UNITS }
 
-unfoldable pub args_of : List (List ℕ) → Option (List Arg)
-args_of [] = Some []
-args_of (word ∷ words) = with_arg (arg_of word) (args_of words)
+-- the most that may be said
+abbrev pub most : Limits
+most = record { heap = MOST_HEAP; depth = MOST_DEPTH; units = MOST_UNITS }
+
+-- the options of a run, of which the third says how many steps it may make
+abbrev pub step_options : Rules
+step_options = record { name = codes "--steps"; usual = usual; most = most }
+
+-- a run is given no more than it may be
+abbrev pub IsWithin : Limits → Type 0
+IsWithin = options.IsWithin most
 
 -- a text to verify has no option and no value behind it
 abbrev pub verifies : Given → List (List ℕ) → Option Meant
 verifies given (text ∷ []) = if none_given given then Some (Verify text) else None
 verifies given _ = None
 
+abbrev pub run_of : Requested → Meant
+run_of asked = Run asked.name asked.limits asked.args
+
 abbrev pub runs : Given → List (List ℕ) → Option Meant
-runs given [] = None
-runs given (text ∷ words) = option_map (Run text (limits_of given)) (args_of words)
+runs given values = option_map run_of (requested usual given values)
 
 abbrev pub commanded : (name : List ℕ) → Option Sorted → Option Meant
 commanded name None = None
@@ -49,16 +59,13 @@ commanded name (Some found) =
 -- values are arguments.
 abbrev pub words_mean : List (List ℕ) → Option Meant
 words_mean [] = None
-words_mean (name ∷ words) = commanded name (sorted words [] none_yet)
+words_mean (name ∷ words) = commanded name (sorted step_options words [] none_yet)
 
 abbrev pub view : Command → Meant
 view (command.Verify text) = Verify text.now
-view (command.Run text limits args) = Run text.now limits args.items
-
-abbrev pub sorted_view : made.Sorted → Sorted
-sorted_view sorted = record { values = texts sorted.values.items; given = sorted.given }
+view (command.Run request) = Run request.name.now request.limits request.args.items
 
 -- the command runs nothing beyond what a run may be given
 abbrev pub IsWithinLimits : Command → Type 0
 IsWithinLimits (command.Verify text) = Unit {0}
-IsWithinLimits (command.Run text limits args) = IsWithin limits
+IsWithinLimits (command.Run request) = IsWithin request.limits

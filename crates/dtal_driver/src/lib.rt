@@ -8,10 +8,8 @@
 
 mod answer;
 mod counts;
-mod limits;
 mod lines;
 mod load;
-mod options;
 mod run;
 mod text;
 mod top;

@@ -3,14 +3,14 @@
 ghost use Rattle.std.specs.Prelude.{IfOk, IfErr};
 ghost use Rattle.dtal_code.specs.Acceptance.{Accepted};
 ghost use Rattle.dtal_driver.specs.Causes.{IsLoaded, IsNotLoaded};
-ghost use Rattle.dtal_driver.specs.Options.{IsWithin};
+ghost use Rattle.dtal_driver.specs.Words.{IsWithin};
 
 use crate::answer::Answer;
-use crate::options::Limits;
 use dtal_assembler::assemble;
 use dtal_code::DtalProgram;
 use dtal_machine::{Machine, main_signature};
 use dtal_safety::accepted_programs_run_safely;
+use run_options::Limits;
 use std::alloc::Global;
 use xan_io::Arg;
 

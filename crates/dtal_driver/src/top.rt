@@ -12,9 +12,9 @@ ghost use Rattle.xan_io.specs.declared.arg.Arg.{Arg};
 ghost use Rattle.dtal_driver.specs.Answers.{status_of, line_of};
 ghost use Rattle.dtal_driver.specs.Promises.{IsStatus, IsEndOfRun, OfText, TooLongFor, NoProgramAt, RefusedAt, FaultyAt, RanTo, Ran, AcceptedText, Said, SaidInPart};
 ghost use Rattle.dtal_driver.specs.Causes.{Cause, TextRose, IsText, IsLoadedFrom, Says, Went, RunSaid};
-ghost use Rattle.dtal_driver.specs.Options.{IsWithin};
+ghost use Rattle.dtal_driver.specs.Words.{IsWithin};
 ghost use Rattle.dtal_driver.specs.Report.{Report, Reports, plain, report_text};
-ghost use Rattle.dtal_driver.specs.declared.options.Limits.{Limits};
+ghost use Rattle.run_options.specs.declared.options.Limits.{Limits};
 ghost use Rattle.dtal_driver.specs.Words.{Meant, words_mean, text_of, Verify, Run};
 ghost use Rattle.xan_io.specs.Words.{texts};
 
@@ -22,14 +22,14 @@ use crate::answer::Answer;
 use crate::counts::accepted_answer;
 use crate::lines::put_line;
 use crate::load::load;
-use crate::options::Limits;
 use crate::run::{End, run};
 use crate::text::verified_program;
-use crate::words::{Command, WordsError, read_command};
+use crate::words::{Command, read_command};
 use dtal_code::{Rule, Where};
 use dtal_machine::Machine;
 use dtal_safety::accepted_programs_run_safely;
 use dtal_text::program_texts_are_read;
+use run_options::{Limits, WordsError};
 use std::alloc::Global;
 use xan_io::{Arg, Files, Sink};
 
@@ -105,9 +105,14 @@ fn execute<F: Files, O: Sink>(alloc: Global, words: &[&str], files: &mut F, out:
 {
     match read_command(alloc, words) {
         Ok(Command::Verify(text)) => say(out, verify_text(alloc, files, text)),
-        Ok(Command::Run(text, limits, args)) => {
-            run_text(alloc, files, out, text, limits, args.as_slice())
-        }
+        Ok(Command::Run(request)) => run_text(
+            alloc,
+            files,
+            out,
+            request.name,
+            request.limits,
+            request.args.as_slice(),
+        ),
         Err(WordsError::NoCommand) => say(out, Answer::NoCommand),
         Err(WordsError::Memory) => say(out, Answer::Memory),
     }
@@ -128,7 +133,7 @@ fn run_text<F: Files, O: Sink>(
         result (O.faults out.old) (O.faults out.new) (O.written out.old) (O.written out.new) }
 {
     match load_text(alloc, files, text, limits, args) {
-        Ok(machine) => run_and_say(machine, out, limits.steps),
+        Ok(machine) => run_and_say(machine, out, limits.units),
         Err(answer) => say(out, answer),
     }
 }
