@@ -1,9 +1,9 @@
 -- What stands for terms, one term after another.
 use Rattle.std.proofs.Common.{◌≡◌, ℕ, ◌+◌, ◌<◌, ◌≤◌, ℤ, pos, ◌+ℤ◌, ◌*ℤ◌, List, [], ◌∷◌, ◌++◌, length, drop, get_or, nat_lt, Bool, true, false, cond, Some, None, refl, sym, ◌∙◌, ap}
-use Rattle.std.proofs.lemmas.List.{append_assoc, append-nil, drop_more, drop_all}
+use Rattle.std.proofs.lemmas.List.{append_assoc, append-nil, drop_more, drop_all, length-append, length-map}
 use Rattle.xan_lin.specs.Terms.{no_term}
 use Rattle.xan_lin.specs.Linear.{Linear, variable_form}
-use Rattle.xan_lin.specs.Subst.{listed, listed_or_own, zero_form, replacement, multiples, replaced_terms, replaced_constant}
+use Rattle.xan_lin.specs.Subst.{listed, listed_or_own, zero_form, replacement, multiple, multiples, replaced_terms, replaced_constant}
 use Rattle.xan_lin.specs.declared.term.Term.{Term}
 use Rattle.xan_lin.proofs.Booleans.{less, not_less}
 use Rattle.xan_lin.proofs.Ring.{add_assoc_ℤ, add_none}
@@ -59,6 +59,25 @@ pub all_replaced : (made whole ts : List Term) (values : List (ℕ × Linear)) (
     → made ++ replaced_terms values below (drop at ts) ≡ whole → made ≡ whole
 all_replaced made whole ts values below at h same =
     sym (append-nil made) ∙ ap (λ xs. made ++ xs) (sym (ap (λ xs. replaced_terms values below xs) (drop_all at ts h) ∙ replaced-none values below)) ∙ same
+
+-- ---- how many there are
+
+replaced-length : (values : List (ℕ × Linear)) (below : ℕ) (t : Term) (ts : List Term)
+    → length (replaced_terms values below (t ∷ ts)) ≡ length (replacement values below t.var).terms + length (replaced_terms values below ts)
+replaced-length values below t ts =
+    let own = (replacement values below t.var).terms in
+    ap length (replaced-cons values below t ts)
+    ∙ length-append (multiples t.coef own) (replaced_terms values below ts)
+    ∙ ap (λ n. n + length (replaced_terms values below ts)) (length-map own (multiple t.coef))
+
+pub replaced-next : (ts : List Term) (values : List (ℕ × Linear)) (below at : ℕ) → at < length ts
+    → length (replaced_terms values below (drop at ts))
+    ≡ length (replacement values below (get_or ts at no_term).var).terms + length (replaced_terms values below (drop (at + 1) ts))
+replaced-next ts values below at h =
+    ap (λ xs. length (replaced_terms values below xs)) (drop_more ts at no_term h) ∙ replaced-length values below (get_or ts at no_term) (drop (at + 1) ts)
+
+pub replaced-end : (ts : List Term) (values : List (ℕ × Linear)) (below at : ℕ) → length ts ≤ at → length (replaced_terms values below (drop at ts)) ≡ 0
+replaced-end ts values below at h = ap length (ap (λ xs. replaced_terms values below xs) (drop_all at ts h) ∙ replaced-none values below)
 
 -- ---- the constants
 

@@ -15,8 +15,8 @@ use crate::gather::gathered;
 use crate::merge::{
     below_negated, held, merged, negated, number_difference, number_excess, number_sum,
 };
-use crate::product_sum::gathered_products;
-use crate::replace::{constant_after, replaced};
+use crate::replace::constant_after;
+use crate::replaced_sum::replaced_sum;
 use crate::scale::{product, scaled};
 use crate::term::{MOST_TERMS, Memory, Term, TooLarge};
 use crate::text::{put_number, put_terms};
@@ -174,8 +174,7 @@ impl Form {
         requires { VariablesRise 0 values.now }
         ensures { result ≡ subst_of values.now below self.now }
     {
-        let products = replaced(self.terms.as_slice(), values, below);
-        let terms = gathered_products(products.as_slice());
+        let terms = replaced_sum(self.terms.as_slice(), values, below);
         let constant = constant_after(self.terms.as_slice(), &self.constant, values, below);
         sized_form(terms.as_slice(), &cut_wide(&constant))
     }

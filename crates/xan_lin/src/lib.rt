@@ -14,6 +14,7 @@ mod merge;
 mod number;
 mod product_sum;
 mod replace;
+mod replaced_sum;
 mod scale;
 mod term;
 mod text;

@@ -5,7 +5,7 @@ use Rattle.xan_lin.specs.Subst.{multiples}
 use Rattle.xan_lin.proofs.replace.push_products.Given as goal
 
 abbrev pub invariant-loop-term : goal.invariant-loop-term
-invariant-loop-term l = record {
+invariant-loop-term g l = record {
   made : product_terms l.made.items ≡ product_terms l.fn.made.items ++ multiples l.by (take l.term-index l.terms);
   len : array_vec_len l.made ≡ array_vec_len l.fn.made + l.term-index;
 }
