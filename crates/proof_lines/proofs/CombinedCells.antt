@@ -1,5 +1,5 @@
 -- How far the sum of two rows has come, one column after another.
-use Rattle.std.proofs.Common.{◌≡◌, ℕ, zero, suc, ◌+◌, ◌-◌, ◌<◌, ◌≤◌, ℤ, pos, ◌+ℤ◌, ◌*ℤ◌, ◌&&◌, true, false, List, [], ◌∷◌, ◌++◌, length, take, drop, replicate, set, get_or, refl, sym, ◌∙◌, ap, arith}
+use Rattle.std.proofs.Common.{◌≡◌, ℕ, zero, suc, ◌+◌, ◌-◌, ◌<◌, ◌≤◌, ℤ, pos, ◌+ℤ◌, ◌*ℤ◌, ◌&&◌, true, false, List, [], ◌∷◌, ◌++◌, length, take, drop, replicate, set, get_or, refl, sym, ◌∙◌, ap, subst, arith}
 use Rattle.std.specs.List.{list_all}
 use Rattle.std.proofs.lemmas.List.{append_assoc, length-take-le, take-append-drop, take_more}
 use Rattle.std.proofs.lemmas.List.Folds.{list_all-append}
@@ -16,8 +16,8 @@ sum_to at left right a b = combined_cells a (take at left) b (take at right)
 abbrev pub sum_at : ℕ → List ℤ → List ℤ → ℤ → ℤ → ℤ
 sum_at at left right a b = (get_or left at (pos 0) *ℤ a) +ℤ (get_or right at (pos 0) *ℤ b)
 
-pub record Combining (cells left right : List ℤ) (a b : ℤ) (at : ℕ) : Type 0 where
-  pub filled : Filled cells (sum_to at left right a b) at
+pub record Combining (cells old left right : List ℤ) (a b : ℤ) (at : ℕ) : Type 0 where
+  pub filled : Filled cells old (sum_to at left right a b) at
   pub small : list_all is_within (sum_to at left right a b) ≡ true
 
 combined-append : (a b : ℤ) (xs ys us vs : List ℤ) → length xs ≡ length ys
@@ -73,31 +73,32 @@ sum-split left right a b at h k =
     ∙ ap (λ ys. combined_cells a (take at left ++ drop at left) b ys) (sym (take-append-drop at right))
     ∙ combined-append a b (take at left) (take at right) (drop at left) (drop at right) (length-take-le at left h ∙ sym (length-take-le at right k))
 
-pub combines_none : (cells left right : List ℤ) (a b : ℤ) → cells ≡ replicate 65 (pos 0) → Combining cells left right a b 0
-combines_none cells left right a b e = record {
-  filled = record { cells_are = e ∙ ap (λ front. front ++ replicate 65 (pos 0)) (sym (combined-none a b)); count = ap length (combined-none a b) };
+pub combines_none : (old left right : List ℤ) (a b : ℤ) → Combining old old left right a b 0
+combines_none old left right a b = record {
+  filled = record { cells_are = ap (λ front. front ++ old) (sym (combined-none a b)); count = ap length (combined-none a b) };
   small = ap (λ cells. list_all is_within cells) (combined-none a b);
 }
 
-pub combines_more : (cells new left right : List ℤ) (a b cell : ℤ) (at used : ℕ) → Combining cells left right a b at
-    → IsBlankBehind used left → IsBlankBehind used right → used ≤ 64 → at < used
-    → cell ≡ sum_at at left right a b → is_within cell ≡ true → new ≡ set cells at cell → Combining new left right a b (at + 1)
-combines_more cells new left right a b cell at used c l r few h e w change =
-    let below : at < 65 = omega arith in
+pub combines_more : (cells new old left right : List ℤ) (a b cell : ℤ) (at used : ℕ) → Combining cells old left right a b at
+    → IsBlankBehind used old → IsBlankBehind used left → IsBlankBehind used right → used ≤ 64 → at < used
+    → cell ≡ sum_at at left right a b → is_within cell ≡ true → new ≡ set cells at cell → Combining new old left right a b (at + 1)
+combines_more cells new old left right a b cell at used c o l r few h e w change =
+    let width = o.width in
+    let below : at < length old = omega arith in
     let left_width = l.width in
     let right_width = r.width in
     let more : sum_to (at + 1) left right a b ≡ sum_to at left right a b ++ cell ∷ [] =
     sum-more left right a b at (omega arith) (omega arith) (left_width ∙ sym right_width) ∙ ap (λ n. sum_to at left right a b ++ n ∷ []) (sym e) in
     record {
-      filled = filled_more cells new (sum_to at left right a b) (sum_to (at + 1) left right a b) at cell c.filled below more change;
+      filled = filled_more cells new old (sum_to at left right a b) (sum_to (at + 1) left right a b) at cell c.filled below more change;
       small = ap (λ xs. list_all is_within xs) more ∙ list_all-append is_within (sum_to at left right a b) (cell ∷ [])
           ∙ join (list_all is_within (sum_to at left right a b)) (is_within cell && true) c.small (ap (λ t. t && true) w);
     }
 
-pub combines_past : (cells left right : List ℤ) (a b : ℤ) (at used : ℕ) → Combining cells left right a b at
-    → IsBlankBehind used left → IsBlankBehind used right → used ≤ 64 → at < used
+pub combines_past : (cells old left right : List ℤ) (a b : ℤ) (at used : ℕ) → Combining cells old left right a b at
+    → IsBlankBehind used old → IsBlankBehind used left → IsBlankBehind used right → used ≤ 64 → at < used
     → is_within (sum_at at left right a b) ≡ false → list_all is_within (combined_cells a left b right) ≡ false
-combines_past cells left right a b at used c l r few h w =
+combines_past cells old left right a b at used c o l r few h w =
     let left_width = l.width in
     let right_width = r.width in
     let later = combined_cells a (drop (at + 1) left) b (drop (at + 1) right) in
@@ -129,14 +130,15 @@ constant_past left right a b used l r few w =
     ∙ list_all-append is_within front (sum_at 64 left right a b ∷ [])
     ∙ false_inside (list_all is_within front) (is_within (sum_at 64 left right a b)) true w
 
-pub combines_all : (cells new left right : List ℤ) (a b constant : ℤ) (at used : ℕ) → Combining cells left right a b at
-    → IsBlankBehind used left → IsBlankBehind used right → used ≤ 64 → used ≤ at → at ≤ used
+pub combines_all : (cells new old left right : List ℤ) (a b constant : ℤ) (at used : ℕ) → Combining cells old left right a b at
+    → IsBlankBehind used old → IsBlankBehind used left → IsBlankBehind used right → used ≤ 64 → used ≤ at → at ≤ used
     → constant ≡ sum_at 64 left right a b → is_within constant ≡ true → new ≡ set cells 64 constant
     → (new ≡ combined_cells a left b right) × (list_all is_within new ≡ true)
-combines_all cells new left right a b constant at used c l r few h k e w change =
+combines_all cells new old left right a b constant at used c o l r few h k e w change =
     let same : at ≡ used = omega arith in
     let front = sum_to at left right a b in
-    let is : new ≡ front ++ (replicate (64 - at) (pos 0) ++ constant ∷ []) = filled_all cells new front at constant c.filled (omega arith) change in (
+    let is : new ≡ front ++ (replicate (64 - at) (pos 0) ++ constant ∷ []) =
+    filled_all cells new old front at constant c.filled (subst (λ (n : ℕ). IsBlankBehind n old) (sym same) o) (omega arith) change in (
       is ∙ ap (λ n. sum_to n left right a b ++ (replicate (64 - n) (pos 0) ++ constant ∷ [])) same
           ∙ ap (λ n. sum_to used left right a b ++ (replicate (64 - used) (pos 0) ++ n ∷ [])) e ∙ sym (sum-whole left right a b used l r few),
       ap (λ xs. list_all is_within xs) is ∙ list_all-append is_within front (replicate (64 - at) (pos 0) ++ constant ∷ [])

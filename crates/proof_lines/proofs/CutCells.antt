@@ -1,5 +1,5 @@
 -- How far the quotient of a row has come, one column after another.
-use Rattle.std.proofs.Common.{◌≡◌, ℕ, zero, suc, ◌+◌, ◌-◌, ◌<◌, ◌≤◌, ℤ, pos, ◌&&◌, Bool, true, false, List, [], ◌∷◌, ◌++◌, length, take, drop, map, replicate, set, get_or, refl, sym, ◌∙◌, ap, arith}
+use Rattle.std.proofs.Common.{◌≡◌, ℕ, zero, suc, ◌+◌, ◌-◌, ◌<◌, ◌≤◌, ℤ, pos, ◌&&◌, Bool, true, false, List, [], ◌∷◌, ◌++◌, length, take, drop, map, replicate, set, get_or, refl, sym, ◌∙◌, ap, subst, arith}
 use Rattle.std.specs.List.{list_all}
 use Rattle.std.proofs.Math.Seq.{take-append_seam}
 use Rattle.std.proofs.lemmas.List.{append_assoc, length-append, length-replicate, length-take-le, take-append-drop, take_more, map-append, get_or-take}
@@ -14,21 +14,22 @@ use Rattle.proof_lines.proofs.Quotients.{floor-zero, multiple-zero}
 abbrev pub floors : ℤ → List ℤ → List ℤ
 floors by row = map (λ cell. floor_over cell by) row
 
-pub record Cutting (cells row : List ℤ) (by : ℤ) (at : ℕ) : Type 0 where
-  pub filled : Filled cells (floors by (take at row)) at
+pub record Cutting (cells old row : List ℤ) (by : ℤ) (at : ℕ) : Type 0 where
+  pub filled : Filled cells old (floors by (take at row)) at
   pub whole : list_all (is_multiple by) (take at row) ≡ true
 
-pub cuts_none : (cells row : List ℤ) (by : ℤ) → cells ≡ replicate 65 (pos 0) → Cutting cells row by 0
-cuts_none cells row by e = record { filled = record { cells_are = e; count = refl }; whole = refl }
+pub cuts_none : (old row : List ℤ) (by : ℤ) → Cutting old old row by 0
+cuts_none old row by = record { filled = record { cells_are = refl; count = refl }; whole = refl }
 
-pub cuts_more : (cells new row : List ℤ) (by cell : ℤ) (at used : ℕ) → Cutting cells row by at → IsBlankBehind used row → used ≤ 64 → at < used
-    → cell ≡ floor_over (get_or row at (pos 0)) by → is_multiple by (get_or row at (pos 0)) ≡ true → new ≡ set cells at cell → Cutting new row by (at + 1)
-cuts_more cells new row by cell at used c r few h e w change =
+pub cuts_more : (cells new old row : List ℤ) (by cell : ℤ) (at used : ℕ) → Cutting cells old row by at → IsBlankBehind used old → IsBlankBehind used row → used ≤ 64 → at < used
+    → cell ≡ floor_over (get_or row at (pos 0)) by → is_multiple by (get_or row at (pos 0)) ≡ true → new ≡ set cells at cell → Cutting new old row by (at + 1)
+cuts_more cells new old row by cell at used c o r few h e w change =
     let width = r.width in
-    let below : at < 65 = omega arith in
+    let old_width = o.width in
+    let below : at < length old = omega arith in
     let more : take (at + 1) row ≡ take at row ++ get_or row at (pos 0) ∷ [] = take_more row at (pos 0) (omega arith) in
     record {
-      filled = filled_more cells new (floors by (take at row)) (floors by (take (at + 1) row)) at cell c.filled below
+      filled = filled_more cells new old (floors by (take at row)) (floors by (take (at + 1) row)) at cell c.filled below
           (ap (floors by) more ∙ map-append (λ n. floor_over n by) (take at row) (get_or row at (pos 0) ∷ [])
           ∙ ap (λ n. floors by (take at row) ++ n ∷ []) (sym e)) change;
       whole = ap (λ xs. list_all (is_multiple by) xs) more ∙ list_all-append (is_multiple by) (take at row) (get_or row at (pos 0) ∷ [])
@@ -79,13 +80,13 @@ floors-zeros : (by x : ℤ) (n : ℕ) → is_positive by ≡ true → floors by 
 floors-zeros by x zero h = refl
 floors-zeros by x (suc n) h = ap (λ cell. cell ∷ floors by (replicate n (pos 0) ++ x ∷ [])) (floor-zero by h) ∙ ap (λ cells. pos 0 ∷ cells) (floors-zeros by x n h)
 
-pub cuts_all : (cells new row : List ℤ) (by constant : ℤ) (at used : ℕ) → Cutting cells row by at → IsBlankBehind used row → used ≤ 64 → used ≤ at → at ≤ used
+pub cuts_all : (cells new old row : List ℤ) (by constant : ℤ) (at used : ℕ) → Cutting cells old row by at → IsBlankBehind used old → IsBlankBehind used row → used ≤ 64 → used ≤ at → at ≤ used
     → is_positive by ≡ true → constant ≡ floor_over (get_or row 64 (pos 0)) by → new ≡ set cells 64 constant
     → (new ≡ floors by row) × (list_all (is_multiple by) (take 64 row) ≡ true)
-cuts_all cells new row by constant at used c r few h k positive e change =
+cuts_all cells new old row by constant at used c o r few h k positive e change =
     let same : at ≡ used = omega arith in
     let zeros = replicate (64 - used) (pos 0) in (
-      filled_all cells new (floors by (take at row)) at constant c.filled (omega arith) change
+      filled_all cells new old (floors by (take at row)) at constant c.filled (subst (λ (n : ℕ). IsBlankBehind n old) (sym same) o) (omega arith) change
           ∙ ap (λ n. floors by (take n row) ++ (replicate (64 - n) (pos 0) ++ constant ∷ [])) same
           ∙ ap (λ n. floors by (take used row) ++ (zeros ++ n ∷ [])) e
           ∙ ap (λ xs. floors by (take used row) ++ xs) (sym (floors-zeros by (get_or row 64 (pos 0)) (64 - used) positive))

@@ -1,46 +1,64 @@
--- Cells that are filled from the front, one column after another, and then the constant.
-use Rattle.std.proofs.Common.{◌≡◌, ℕ, zero, suc, ◌+◌, ◌-◌, ◌<◌, ◌≤◌, ℤ, pos, ◌&&◌, Bool, true, false, List, [], ◌∷◌, ◌++◌, length, drop, map, replicate, set, Some, slice_get, refl, sym, ◌∙◌, ap, subst, arith}
+-- Cells that are written over from the front, one column after another, and then the constant.
+use Rattle.std.proofs.Common.{◌≡◌, ℕ, zero, suc, ◌+◌, ◌-◌, ◌<◌, ◌≤◌, ℤ, pos, ◌&&◌, Bool, true, false, List, [], ◌∷◌, ◌++◌, length, drop, map, replicate, set, get_or, Some, slice_get, Result, refl, sym, ◌∙◌, ap, subst, arith}
 use Rattle.std.specs.List.{list_all}
-use Rattle.std.proofs.lemmas.List.{append_assoc, length-append, length-replicate, replicate-append-replicate, set_at}
+use Rattle.std.proofs.lemmas.List.{append_assoc, length-append, length-replicate, replicate-append-replicate, set_at, drop_more}
+use Rattle.std.proofs.lemmas.Grind.{replicate_next}
 use Rattle.xan_lin.specs.Linear.{Linear}
-use Rattle.proof_lines.specs.Cells.{cells_of, dense, IsBlankBehind, AreBlankBehind}
+use Rattle.proof_lines.specs.declared.bad_line.Why.{Why}
+use Rattle.proof_lines.specs.Cells.{cells_of, dense, IsBlankBehind, AreBlankBehind, GivesRow}
 use Rattle.proof_lines.proofs.Dense.{length-cells}
 use Rattle.proof_lines.proofs.CellTests.{dense-constant}
 
--- in front of cells of 0 stands what was filled in
-pub record Filled (cells front : List ℤ) (at : ℕ) : Type 0 where
-  pub cells_are : cells ≡ front ++ replicate (65 - at) (pos 0)
+-- in front of what is left of the old cells stands what was written
+pub record Filled (cells old front : List ℤ) (at : ℕ) : Type 0 where
+  pub cells_are : cells ≡ front ++ drop at old
   pub count : length front ≡ at
 
-zeros_first : (n : ℕ) → replicate (suc n) (pos 0) ≡ pos 0 ∷ replicate n (pos 0)
-zeros_first n = refl
+pub filled_more : (cells new old front more : List ℤ) (at : ℕ) (cell : ℤ) → Filled cells old front at → at < length old → more ≡ front ++ cell ∷ []
+    → new ≡ set cells at cell → Filled new old more (at + 1)
+filled_more cells new old front more at cell f h grown change = record {
+  cells_are = change
+      ∙ ap (λ xs. set xs at cell) (f.cells_are ∙ ap (λ xs. front ++ xs) (drop_more old at (pos 0) h))
+      ∙ set_at front (get_or old at (pos 0)) (drop (at + 1) old) cell at f.count
+      ∙ sym (append_assoc front (cell ∷ []) (drop (at + 1) old))
+      ∙ ap (λ xs. xs ++ drop (at + 1) old) (sym grown);
+  count = ap length grown ∙ length-append front (cell ∷ []) ∙ ap (λ n. n + 1) f.count;
+}
 
-pub filled_more : (cells new front more : List ℤ) (at : ℕ) (cell : ℤ) → Filled cells front at → at < 65 → more ≡ front ++ cell ∷ [] → new ≡ set cells at cell
-    → Filled new more (at + 1)
-filled_more cells new front more at cell f h grown change =
-    let left : 65 - at ≡ suc (65 - (at + 1)) = omega arith in
-    record {
-      cells_are = change
-          ∙ ap (λ xs. set xs at cell) (f.cells_are ∙ ap (λ n. front ++ replicate n (pos 0)) left ∙ ap (λ xs. front ++ xs) (zeros_first (65 - (at + 1))))
-          ∙ set_at front (pos 0) (replicate (65 - (at + 1)) (pos 0)) cell at f.count
-          ∙ sym (append_assoc front (cell ∷ []) (replicate (65 - (at + 1)) (pos 0)))
-          ∙ ap (λ xs. xs ++ replicate (65 - (at + 1)) (pos 0)) (sym grown);
-      count = ap length grown ∙ length-append front (cell ∷ []) ∙ ap (λ n. n + 1) f.count;
-    }
-
-pub filled_all : (cells new front : List ℤ) (at : ℕ) (constant : ℤ) → Filled cells front at → at ≤ 64 → new ≡ set cells 64 constant
+pub filled_all : (cells new old front : List ℤ) (at : ℕ) (constant : ℤ) → Filled cells old front at → IsBlankBehind at old → at ≤ 64 → new ≡ set cells 64 constant
     → new ≡ front ++ (replicate (64 - at) (pos 0) ++ constant ∷ [])
-filled_all cells new front at constant f h change =
+filled_all cells new old front at constant f blank h change =
     let zeros = replicate (64 - at) (pos 0) in
     let count = f.count in
-    let left : 65 - at ≡ (64 - at) + 1 = omega arith in
     let long : length (front ++ zeros) ≡ 64 = length-append front zeros ∙ ap (λ n. length front + n) (length-replicate (64 - at) (pos 0)) ∙ omega arith in
     change
     ∙ ap (λ xs. set xs 64 constant)
-    (f.cells_are ∙ ap (λ n. front ++ replicate n (pos 0)) left ∙ ap (λ xs. front ++ xs) (sym (replicate-append-replicate (64 - at) 1 (pos 0)))
-    ∙ sym (append_assoc front zeros (pos 0 ∷ [])))
-    ∙ set_at (front ++ zeros) (pos 0) [] constant 64 long
+    (f.cells_are ∙ ap (λ xs. front ++ xs) blank.blank ∙ sym (append_assoc front zeros (get_or old 64 (pos 0) ∷ [])))
+    ∙ set_at (front ++ zeros) (get_or old 64 (pos 0)) [] constant 64 long
     ∙ append_assoc front zeros (constant ∷ [])
+
+-- ---- the row of a constant alone
+
+abbrev pub Clearing : List ℤ → List ℤ → ℕ → Type 0
+Clearing cells old at = Filled cells old (replicate at (pos 0)) at
+
+pub clears_none : (old : List ℤ) → Clearing old old 0
+clears_none old = record { cells_are = refl; count = refl }
+
+pub clears_more : (cells new old : List ℤ) (at used : ℕ) → Clearing cells old at → IsBlankBehind used old → used ≤ 64 → at < used → new ≡ set cells at (pos 0)
+    → Clearing new old (at + 1)
+clears_more cells new old at used f blank few h change =
+    let width = blank.width in
+    filled_more cells new old (replicate at (pos 0)) (replicate (at + 1) (pos 0)) at (pos 0) f (omega arith) (replicate_next at (pos 0)) change
+
+pub clears_all : (cells new old : List ℤ) (at used : ℕ) (constant : ℤ) → Clearing cells old at → IsBlankBehind used old → used ≤ 64 → used ≤ at → at ≤ used
+    → new ≡ set cells 64 constant → new ≡ replicate 64 (pos 0) ++ constant ∷ []
+clears_all cells new old at used constant f blank few h k change =
+    let same : at ≡ used = omega arith in
+    let all : used + (64 - used) ≡ 64 = omega arith in
+    filled_all cells new old (replicate used (pos 0)) used constant (subst (λ (n : ℕ). Clearing cells old n) same f) blank few change
+    ∙ sym (append_assoc (replicate used (pos 0)) (replicate (64 - used) (pos 0)) (constant ∷ []))
+    ∙ ap (λ xs. xs ++ constant ∷ []) (replicate-append-replicate used (64 - used) (pos 0) ∙ ap (λ n. replicate n (pos 0)) all)
 
 pub false_inside : (a b c : Bool) → b ≡ false → (a && (b && c)) ≡ false
 false_inside true true c e = cc
@@ -54,7 +72,7 @@ zeros-pass p (suc n) h = ap (λ b. b && list_all p (replicate n (pos 0))) h ∙ 
 
 -- ---- rows in cells are blank behind the columns in use
 
-cells-free : (free : ℕ) (row : Linear) → cells_of [] free row ≡ replicate free (pos 0) ++ row.constant ∷ []
+pub cells-free : (free : ℕ) (row : Linear) → cells_of [] free row ≡ replicate free (pos 0) ++ row.constant ∷ []
 unfolding cells_of
 cells-free zero row = refl
 cells-free (suc free) row = ap (λ cells. pos 0 ∷ cells) (cells-free free row)
@@ -71,6 +89,16 @@ blank-dense columns row few = record {
   blank = cells-behind columns (64 - length columns) row ∙ cells-free (64 - length columns) row
       ∙ ap (λ n. replicate (64 - length columns) (pos 0) ++ n ∷ []) (sym (dense-constant columns row few));
 }
+
+-- the cells of a row that was given are blank behind the columns that are then in use
+pub blank-given : (before after : List ℕ) (cells : List ℤ) (answer : Result Linear Why) → GivesRow before after cells answer → IsBlankBehind (length after) cells
+blank-given before after cells answer g = subst (λ (xs : List ℤ). IsBlankBehind (length after) xs) (sym g.cells_are) (blank-dense after g.row g.few)
+
+-- so are cells of 0
+pub blank-zeros : (columns : List ℕ) (cells : List ℤ) → columns ≡ [] → cells ≡ replicate 65 (pos 0) → IsBlankBehind (length columns) cells
+blank-zeros columns cells none is =
+    subst (λ (vs : List ℕ). IsBlankBehind (length vs) cells) (sym none)
+    (subst (λ (xs : List ℤ). IsBlankBehind 0 xs) (sym is) (record { width = refl; blank = refl }))
 
 pub blank-rows : (columns : List ℕ) (rows : List Linear) → length columns ≤ 64 → AreBlankBehind (length columns) (map (dense columns) rows)
 blank-rows columns [] few = tt

@@ -1,5 +1,5 @@
 -- How far the cells of a row have come, one term after another.
-use Rattle.std.proofs.Common.{◌≡◌, ℕ, zero, suc, ◌+◌, ◌-◌, ◌<◌, ◌≤◌, ℤ, pos, true, nat_lt, List, [], ◌∷◌, ◌++◌, length, take, drop, set, replicate, get_or, Some, slice_get, refl, sym, ◌∙◌, ap, subst, arith}
+use Rattle.std.proofs.Common.{◌≡◌, ℕ, suc, ◌+◌, ◌-◌, ◌<◌, ◌≤◌, ℤ, pos, true, nat_lt, List, [], ◌∷◌, ◌++◌, length, take, drop, set, replicate, get_or, Some, slice_get, sym, ◌∙◌, ap, subst, arith}
 use Rattle.std.proofs.lemmas.List.{take_more, take_all, drop_more, take-append-drop}
 use Rattle.xan_lin.specs.Terms.{IsRising, coefficient_of, no_term}
 use Rattle.xan_lin.specs.Linear.{Linear}
@@ -9,6 +9,7 @@ use Rattle.proof_lines.specs.Cells.{AreDifferent, cells_of, dense}
 use Rattle.proof_lines.proofs.TermVariables.{with_terms-none, with_terms-append, with_terms-one, too_many_at}
 use Rattle.xan_lin.proofs.Coefficients.{coefficient-none, coefficient-front}
 use Rattle.proof_lines.proofs.Dense.{dense-with, cells-set}
+use Rattle.proof_lines.proofs.FilledCells.{cells-free}
 
 -- the row of the first terms
 abbrev pub front_row : List Term → ℤ → ℕ → Linear
@@ -19,11 +20,6 @@ pub record Spreading (before columns : List ℕ) (cells : List ℤ) (terms : Lis
   pub cells_are : cells ≡ dense columns (front_row terms constant at)
   pub few : length columns ≤ 64
   pub different : AreDifferent columns
-
-zeros : (free : ℕ) (constant : ℤ) → set (replicate (suc free) (pos 0)) free constant ≡ cells_of [] free (record { terms = []; constant = constant })
-unfolding cells_of
-zeros zero constant = refl
-zeros (suc free) constant = ap (λ cells. pos 0 ∷ cells) (zeros free constant)
 
 empty : (columns : List ℕ) (free : ℕ) (constant : ℤ)
     → cells_of columns free (record { terms = []; constant = constant }) ≡ cells_of [] (length columns + free) (record { terms = []; constant = constant })
@@ -36,10 +32,10 @@ empty (v ∷ columns) free constant =
     ∙ ap (λ n. cells_of [] n (record { terms = []; constant = constant })) more
 
 pub spreads_none : (before : List ℕ) (cells : List ℤ) (terms : List Term) (constant : ℤ) → length before ≤ 64 → AreDifferent before
-    → cells ≡ set (replicate 65 (pos 0)) 64 constant → Spreading before before cells terms constant 0
+    → cells ≡ replicate 64 (pos 0) ++ constant ∷ [] → Spreading before before cells terms constant 0
 spreads_none before cells terms constant few different is = record {
   columns_are = sym (with_terms-none before);
-  cells_are = is ∙ zeros 64 constant
+  cells_are = is ∙ sym (cells-free 64 (record { terms = []; constant = constant }))
       ∙ (let all : 64 ≡ length before + (64 - length before) = omega arith in ap (λ n. cells_of [] n (record { terms = []; constant = constant })) all)
       ∙ sym (empty before (64 - length before) constant);
   few = few;

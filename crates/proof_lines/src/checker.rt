@@ -5,11 +5,11 @@ ghost use Rattle.proof_lines.specs.declared.bad_line.Why.TheVariants as why;
 ghost use Rattle.proof_lines.specs.Lines.{LinesProve};
 ghost use Rattle.proof_lines.specs.Check.{is_listed, bounded, row_given, checked};
 ghost use Rattle.proof_lines.specs.Rows.{opposite_of};
-ghost use Rattle.proof_lines.specs.Cells.{AreDifferent, AreBlankBehind, Stands, Gives, combination_cells, cut_cells, last_cannot_hold};
+ghost use Rattle.proof_lines.specs.Cells.{AreDifferent, IsBlankBehind, AreBlankBehind, Stands, Gives, combination_cells, cut_cells, last_cannot_hold};
 ghost use Rattle.proof_lines.specs.Code.{cells_in};
 
 use crate::bad_line::{BadLine, Why};
-use crate::cells::{Cells, combined, divided, is_impossible, spread};
+use crate::cells::{Cells, WIDTH, combine, divide, is_impossible, spread};
 use crate::columns::Columns;
 use crate::hypotheses::is_listed;
 use crate::line::Line;
@@ -54,49 +54,54 @@ fn row_at(pool: &RowPool, base: usize, number: u32) -> Option<&[i64]>
     Some(pool.row(RowId(base + number as usize)))
 }
 
-// The cells of a row, where its variables find columns.
-fn form_cells(columns: &mut Columns, form: &Form) -> Result<Cells, Why>
+// Writes a row, where its variables find columns.
+fn fill_form(cells: &mut Cells, columns: &mut Columns, form: &Form) -> Result<(), Why>
+    requires blank { IsBlankBehind (length columns.old) cells.old }
     requires few { length columns.old ≤ 64 }
     requires different { AreDifferent columns.old }
-    ensures { Gives columns.old columns.new (cells_in result) (bounded columns.old form.now) }
+    ensures { Gives columns.old columns.new (cells_in result cells.new) (bounded columns.old form.now) }
 {
-    match spread(columns, form.terms(), &form.constant_part()) {
-        Some(cells) => Ok(cells),
+    match spread(cells, columns, form.terms(), &form.constant_part()) {
+        Some(()) => Ok(()),
         None => Err(Why::Variables),
     }
 }
 
-// The cells of a hypothesis.
-fn hypothesis_cells(
+// Writes a hypothesis.
+fn fill_hypothesis(
+    cells: &mut Cells,
     hyps: &[Form],
     last: &mut usize,
     columns: &mut Columns,
     form: &Form,
-) -> Result<Cells, Why>
+) -> Result<(), Why>
+    requires blank { IsBlankBehind (length columns.old) cells.old }
     requires few { length columns.old ≤ 64 }
     requires different { AreDifferent columns.old }
-    ensures { Gives columns.old columns.new (cells_in result) (if is_listed form.now hyps.now then bounded columns.old form.now else Err why.NotInContext) }
+    ensures { Gives columns.old columns.new (cells_in result cells.new) (if is_listed form.now hyps.now then bounded columns.old form.now else Err why.NotInContext) }
 {
     if !is_listed(form, hyps, last) {
         return Err(Why::NotInContext);
     }
-    form_cells(columns, form)
+    fill_form(cells, columns, form)
 }
 
-// The cells of the row that holds where the goal does not.
-fn opposite_cells(goal: &Form, columns: &mut Columns) -> Result<Cells, Why>
+// Writes the row that holds where the goal does not.
+fn fill_opposite(cells: &mut Cells, goal: &Form, columns: &mut Columns) -> Result<(), Why>
+    requires blank { IsBlankBehind (length columns.old) cells.old }
     requires few { length columns.old ≤ 64 }
     requires different { AreDifferent columns.old }
-    ensures { Gives columns.old columns.new (cells_in result) (bounded columns.old (opposite_of goal.now)) }
+    ensures { Gives columns.old columns.new (cells_in result cells.new) (bounded columns.old (opposite_of goal.now)) }
 {
     match goal.negated_row() {
-        Ok(row) => form_cells(columns, &row),
+        Ok(row) => fill_form(cells, columns, &row),
         Err(_) => Err(Why::TooLarge),
     }
 }
 
-// The cells of the sum of two rows, each times a multiplier.
-fn combination_cells(
+// Writes the sum of two rows, each times a multiplier.
+fn fill_combination(
+    cells: &mut Cells,
     pool: &RowPool,
     base: usize,
     used: usize,
@@ -104,12 +109,13 @@ fn combination_cells(
     left: u32,
     right_by: &i64,
     right: u32,
-) -> Result<Cells, Why>
+) -> Result<(), Why>
     requires width { pool.now.width ≡ 65 }
     requires within { base ≤ length pool.now.rows }
     requires few { used ≤ 64 }
-    requires blank { AreBlankBehind used (drop base pool.now.rows) }
-    ensures { cells_in result ≡ combination_cells (drop base pool.now.rows) left_by.now left right_by.now right }
+    requires blank { IsBlankBehind used cells.old }
+    requires rows { AreBlankBehind used (drop base pool.now.rows) }
+    ensures { cells_in result cells.new ≡ combination_cells (drop base pool.now.rows) left_by.now left right_by.now right }
 {
     let Some(left) = row_at(pool, base, left) else {
         return Err(Why::NoSuchRow);
@@ -123,19 +129,27 @@ fn combination_cells(
     if *right_by < 1 {
         return Err(Why::Multiplier);
     }
-    match combined(used, left, left_by, right, right_by) {
-        Some(cells) => Ok(cells),
+    match combine(cells, used, left, left_by, right, right_by) {
+        Some(()) => Ok(()),
         None => Err(Why::TooLarge),
     }
 }
 
-// The cells of a row over a divisor.
-fn cut_cells(pool: &RowPool, base: usize, used: usize, row: u32, by: &i64) -> Result<Cells, Why>
+// Writes a row over a divisor.
+fn fill_cut(
+    cells: &mut Cells,
+    pool: &RowPool,
+    base: usize,
+    used: usize,
+    row: u32,
+    by: &i64,
+) -> Result<(), Why>
     requires width { pool.now.width ≡ 65 }
     requires within { base ≤ length pool.now.rows }
     requires few { used ≤ 64 }
-    requires blank { AreBlankBehind used (drop base pool.now.rows) }
-    ensures { cells_in result ≡ cut_cells (drop base pool.now.rows) row by.now }
+    requires blank { IsBlankBehind used cells.old }
+    requires rows { AreBlankBehind used (drop base pool.now.rows) }
+    ensures { cells_in result cells.new ≡ cut_cells (drop base pool.now.rows) row by.now }
 {
     let Some(row) = row_at(pool, base, row) else {
         return Err(Why::NoSuchRow);
@@ -143,8 +157,8 @@ fn cut_cells(pool: &RowPool, base: usize, used: usize, row: u32, by: &i64) -> Re
     if *by < 1 {
         return Err(Why::Multiplier);
     }
-    match divided(used, row, by) {
-        Some(cells) => Ok(cells),
+    match divide(cells, used, row, by) {
+        Some(()) => Ok(()),
         None => Err(Why::NotDivisible),
     }
 }
@@ -159,8 +173,9 @@ fn ends_refuted(pool: &RowPool, base: usize) -> bool
     count > base && is_impossible(pool.row(RowId(count - 1)))
 }
 
-// The cells of the row that a line gives behind the rows of the lines before it, which are those from `base` on.
-fn line_cells(
+// Writes the row that a line gives behind the rows of the lines before it, which are those from `base` on.
+fn fill_line(
+    cells: &mut Cells,
     pool: &RowPool,
     base: usize,
     hyps: &[Form],
@@ -168,24 +183,26 @@ fn line_cells(
     columns: &mut Columns,
     last: &mut usize,
     line: &Line,
-) -> Result<Cells, Why>
+) -> Result<(), Why>
     requires width { pool.now.width ≡ 65 }
     requires within { base ≤ length pool.now.rows }
     requires few { length columns.old ≤ 64 }
     requires different { AreDifferent columns.old }
-    requires blank { AreBlankBehind (length columns.old) (drop base pool.now.rows) }
+    requires blank { IsBlankBehind (length columns.old) cells.old }
+    requires rows { AreBlankBehind (length columns.old) (drop base pool.now.rows) }
     ensures { (rows : List Linear) → Stands columns.old (drop base pool.now.rows) rows
-        → Gives columns.old columns.new (cells_in result) (row_given hyps.now goal.now rows columns.old line.now) }
+        → Gives columns.old columns.new (cells_in result cells.new) (row_given hyps.now goal.now rows columns.old line.now) }
 {
     match line {
-        Line::Hyp(form) => hypothesis_cells(hyps, last, columns, form),
-        Line::Goal => opposite_cells(goal, columns),
+        Line::Hyp(form) => fill_hypothesis(cells, hyps, last, columns, form),
+        Line::Goal => fill_opposite(cells, goal, columns),
         Line::Comb {
             left_by,
             left,
             right_by,
             right,
-        } => combination_cells(
+        } => fill_combination(
+            cells,
             pool,
             base,
             columns.count(),
@@ -194,17 +211,17 @@ fn line_cells(
             right_by,
             *right,
         ),
-        Line::Cut { row, by } => cut_cells(pool, base, columns.count(), *row, by),
+        Line::Cut { row, by } => fill_cut(cells, pool, base, columns.count(), *row, by),
     }
 }
 
 // Puts cells behind the rows of a pool with room for them.
 fn put(pool: &mut RowPool, cells: &Cells)
-    requires width { length cells.now.items ≡ pool.old.width }
+    requires width { length cells.now ≡ pool.old.width }
     requires room { length pool.old.rows < pool.old.capacity }
-    ensures { pool.new ≡ record pool.old { rows = pool.old.rows ++ cells.now.items ∷ [] } }
+    ensures { pool.new ≡ record pool.old { rows = pool.old.rows ++ cells.now ∷ [] } }
 {
-    let Ok(_) = pool.push(cells.as_slice()) else {
+    let Ok(_) = pool.push(cells) else {
         unreachable!()
     };
 }
@@ -221,9 +238,19 @@ fn walk(pool: &mut RowPool, hyps: &[Form], goal: &Form, lines: &[Line]) -> Resul
     let base = pool.mark().0;
     let mut columns = Columns::new();
     let mut last = 0usize;
+    let mut cells = [0i64; WIDTH];
     'lines: for (at, line) in lines.iter().enumerate() {
-        match line_cells(pool, base, hyps, goal, &mut columns, &mut last, line) {
-            Ok(cells) => put(pool, &cells),
+        match fill_line(
+            &mut cells,
+            pool,
+            base,
+            hyps,
+            goal,
+            &mut columns,
+            &mut last,
+            line,
+        ) {
+            Ok(()) => put(pool, &cells),
             Err(why) => return Err(BadLine { at: at as u32, why }),
         }
     }

@@ -1,4 +1,4 @@
-use Rattle.std.proofs.Common.{pos, set, replicate, get_or, rules, w64, FitsSigned, ap, ◌∙◌}
+use Rattle.std.proofs.Common.{set, get_or, rules, w64, FitsSigned, ap}
 use Rattle.std.proofs.lemmas.Int.{to_z-of_z}
 use Rattle.xan_lin.specs.Terms.{no_term}
 use Rattle.proof_lines.proofs.SpreadCells.{spreads_none, spreads_more, spreads_past, spreads_all}
@@ -6,8 +6,7 @@ use Rattle.proof_lines.proofs.cells.spread.Goals as goal
 
 pub terms-init : goal.terms-init
 terms-init c =
-    let fits : FitsSigned w64 c.args.constant.now = search rules in
-    spreads_none _ _ _ _ c.requires.few c.requires.different (ap (λ n. set (replicate 65 (pos 0)) 64 n) (to_z-of_z w64 c.args.constant.now fits))
+    spreads_none _ _ _ _ c.requires.few c.requires.different c.clear.ensures
 
 pub terms-preserved : goal.terms-preserved
 terms-preserved c =
@@ -22,4 +21,4 @@ returns-in_default c = spreads_past _ _ _ _ _ _ c.terms.invariant c.terms-test.t
 pub returns : goal.returns
 returns c =
     let s = spreads_all _ _ _ _ _ _ c.terms.invariant c.terms-test.false in
-    (s.0, c.terms.invariant.few, c.terms.invariant.different, c.from.ensures.0 ∙ s.1)
+    (s.0, c.terms.invariant.few, c.terms.invariant.different, s.1)
