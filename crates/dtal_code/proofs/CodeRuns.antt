@@ -11,7 +11,7 @@ use Rattle.dtal_code.specs.declared.instruction.Cmp.TheVariants.{Lt, Ne}
 use Rattle.dtal_code.specs.declared.object.RunOp.{RunOp}
 use Rattle.dtal_code.specs.declared.object.RunOp.TheVariants.{Li, Lb, Mv, Add, Sub, Mul, Div, Mod, Set, Br, Bt, Bf, Jmp, Call, Ret, Len, Ld, St, New, Tup, Untup, Print}
 use Rattle.dtal_code.specs.Declarations.{main_of}
-use Rattle.dtal_code.specs.Entry.{places_of}
+use Rattle.dtal_code.specs.Places.{places_of}
 use Rattle.dtal_code.specs.Grammar.{size_of}
 use Rattle.dtal_code.specs.Machine.{Activation, State, Next, On, Off}
 use Rattle.dtal_code.specs.ObjectCode.{instrs_of, functions_code, starts_from, program_size}

@@ -1,14 +1,10 @@
-pub mod StraightSteps
-pub mod EntryArguments
-pub mod Alone
-mod Parts
-mod StraightTexts
-mod StraightRuns
+pub mod PlaceWords
 pub mod VerifiedPrograms
 pub mod ObjectRuns
 pub mod ArraySums
 pub mod ArraySumText
 mod CodeRuns
+mod AllocatedWords
 pub mod Appended
 mod WordBytes
 pub mod Codings

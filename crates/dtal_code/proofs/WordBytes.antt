@@ -4,7 +4,7 @@ use Rattle.std.specs.List.{All}
 use Rattle.std.proofs.lemmas.List.Elements.{All-head, All-tail}
 use Rattle.dtal_code.specs.Guessed.{bytes_in, first_of, second_of, third_of, high_of}
 use Rattle.dtal_code.specs.ObjectWords.{word_of}
-use Rattle.dtal_code.specs.Text.{IsPlace}
+use Rattle.dtal_code.specs.Places.{IsPlace}
 
 -- ---- bytes of a list
 

@@ -21,7 +21,7 @@ use Rattle.dtal_code.specs.declared.program.Function.{Function}
 use Rattle.dtal_code.specs.declared.program.DtalProgram.{DtalProgram}
 use Rattle.dtal_code.specs.Lower.{is_lower}
 use Rattle.dtal_code.specs.Spelling.{has_edge, program_text}
-use Rattle.dtal_code.specs.Text.{IsRegister, IsPlace}
+use Rattle.dtal_code.specs.Places.{IsRegister, IsPlace}
 
 -- a variable, a label, a function
 abbrev pub IsNumber : ℕ → Type 0

@@ -3,7 +3,7 @@
 use Rattle.std.specs.Prelude.{FitsSigned, ◌<◌, ◌^◌, ℕ, zero, suc, ◌/◌, ◌%◌, ◌==◌, List, [], ◌∷◌, nat_lt, Option, Some, None, if◌then◌else◌}
 use Rattle.std.specs.Int.{w64, cast_signed}
 use Rattle.dtal_code.specs.Grammar.{IsNumber, IsListed}
-use Rattle.dtal_code.specs.Text.{IsPlace}
+use Rattle.dtal_code.specs.Places.{IsPlace}
 use Rattle.dtal_code.specs.declared.instruction.Cmp.{Cmp}
 use Rattle.dtal_code.specs.declared.instruction.Cmp.TheVariants as cmp
 use Rattle.dtal_code.specs.declared.limits.TheConstants.{MOST_LISTED}

@@ -1,8 +1,7 @@
 pub mod Lower
-pub mod Text
+pub mod Places
 pub mod Machine
-pub mod Entry
-pub mod Touched
+pub mod Allocated
 pub mod Instructions
 pub mod Spelling
 pub mod Grammar

@@ -10,7 +10,7 @@ use Rattle.dtal_code.specs.Declarations.{main_of}
 use Rattle.dtal_code.specs.Grammar.{IsNumber, IsTypeNumber, IsListed, IsThree}
 use Rattle.dtal_code.specs.Instructions.{comparison}
 use Rattle.dtal_code.specs.ObjectCode.{code_of}
-use Rattle.dtal_code.specs.Text.{IsRegister, IsPlace}
+use Rattle.dtal_code.specs.Places.{IsRegister, IsPlace}
 
 -- ---- bytes
 

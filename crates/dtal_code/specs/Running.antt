@@ -4,7 +4,7 @@ use Rattle.xan_io.specs.Outcome.{NoStore, Stuck, Running, Outcome}
 use Rattle.operation_rules.specs.Effects.{Effect, Writes, Prints, Takes, Calls, Gives, Ends, effect}
 use Rattle.operation_rules.specs.FlatWords.{Flat, flat_words}
 use Rattle.dtal_code.specs.declared.object.RunOp.{RunOp}
-use Rattle.dtal_code.specs.Entry.{places_of}
+use Rattle.dtal_code.specs.Places.{places_of}
 use Rattle.dtal_code.specs.Instructions.{Instruction, instruction_of}
 use Rattle.dtal_code.specs.Machine.{Activation, State, Next, On, Off, goes_on, returns, after, goes_to}
 use Rattle.dtal_code.specs.ObjectCode.{Code}

@@ -11,7 +11,7 @@ use Rattle.dtal_code.specs.Machine.{Activation, State, Off}
 use Rattle.dtal_code.specs.ObjectCode.{Code}
 use Rattle.dtal_code.specs.Running.{words_in, step}
 use Rattle.dtal_code.specs.Runs.{outcome_from, state_from}
-use Rattle.dtal_code.specs.Touched.{IsAllocated, words_after}
+use Rattle.dtal_code.specs.Allocated.{IsAllocated, words_after}
 
 -- ---- touched addresses
 

@@ -18,7 +18,7 @@ use Rattle.dtal_code.specs.declared.program.LabelState.{LabelState}
 use Rattle.dtal_code.specs.declared.program.Block.{Block}
 use Rattle.dtal_code.specs.declared.program.Function.{Function}
 use Rattle.dtal_code.specs.declared.program.DtalProgram.{DtalProgram}
-use Rattle.dtal_code.specs.Text.{place_text}
+use Rattle.dtal_code.specs.Places.{place_text}
 
 -- ---- lists
 

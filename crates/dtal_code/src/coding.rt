@@ -6,7 +6,7 @@ ghost use Rattle.dtal_code.specs.declared.instruction.Cmp.{Cmp};
 ghost use Rattle.dtal_code.specs.declared.object.RunOp.{RunOp};
 ghost use Rattle.dtal_code.specs.Instructions.{comparison};
 ghost use Rattle.dtal_code.specs.ObjectWords.{bits_of, word_of, words_of, IsRunOp};
-ghost use Rattle.dtal_code.specs.Text.{IsPlace};
+ghost use Rattle.dtal_code.specs.Places.{IsPlace};
 ghost use Rattle.dtal_code.specs.declared.limits.TheConstants.{MOST_LISTED};
 
 use crate::instruction::Cmp;

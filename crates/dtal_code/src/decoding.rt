@@ -6,7 +6,7 @@ ghost use Rattle.dtal_code.specs.declared.limits.TheConstants.{MOST_LISTED};
 ghost use Rattle.dtal_code.specs.declared.object.RunOp.{RunOp};
 ghost use Rattle.dtal_code.specs.Guessed as spec;
 ghost use Rattle.dtal_code.specs.ObjectWords.{IsRunOp, IsPair};
-ghost use Rattle.dtal_code.specs.Text.{IsPlace};
+ghost use Rattle.dtal_code.specs.Places.{IsPlace};
 
 use crate::coding::encode;
 use crate::instruction::Cmp;

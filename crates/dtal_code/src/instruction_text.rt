@@ -2,7 +2,7 @@
 
 ghost use Rattle.std.specs.Prelude.{◌≡◌, ◌++◌, OnOk, codes, decimal};
 ghost use Rattle.dtal_code.specs.Spelling as spec;
-ghost use Rattle.dtal_code.specs.Text.{place_text};
+ghost use Rattle.dtal_code.specs.Places.{place_text};
 
 use crate::instruction::{Cmp, Op};
 use crate::lists::{Piece, put_joined};

@@ -2,28 +2,14 @@ ghost use Rattle.std.specs.Prelude.{◌≡◌, ℕ, List, Option, Ok};
 ghost use Rattle.xan_io.specs.Agreement.{IsSteady};
 ghost use Rattle.state_types.specs.declared.state.StateType.{StateType};
 ghost use Rattle.dtal_code.specs.declared.object.RunOp.{RunOp};
-ghost use Rattle.dtal_code.specs.declared.op.Op.{Op};
 ghost use Rattle.dtal_code.specs.declared.program.DtalProgram.{DtalProgram};
-ghost use Rattle.dtal_code.specs.declared.straight.Straight.{Straight};
 ghost use Rattle.dtal_code.specs.Acceptance.{Accepted};
-ghost use Rattle.dtal_code.specs.Entry.{outcome_from};
 ghost use Rattle.dtal_code.specs.Grammar.{InGrammar};
 ghost use Rattle.dtal_code.specs.Machine.{State};
 ghost use Rattle.dtal_code.specs.ObjectCode.{Code};
 ghost use Rattle.dtal_code.specs.ObjectWords.{IsPair};
 ghost use Rattle.dtal_code.specs.Refusing.{verified};
-ghost use Rattle.dtal_code.specs.Runs as program;
-ghost use Rattle.dtal_code.specs.Text.{Spells};
-
-/// A text spells at most one straight program.
-pub fn one_program_a_text()
-    ensures { (bytes : List ℕ) (p q : Straight) → Spells bytes p → Spells bytes q → p ≡ q }
-{}
-
-/// A run of a straight program is steady: an end stays, and what was printed stays printed.
-pub fn straight_runs_are_steady()
-    ensures { (code : List Op) (entry : Option State) → IsSteady (outcome_from code entry) }
-{}
+ghost use Rattle.dtal_code.specs.Runs.{outcome_from};
 
 /// A program of the grammar in which the walk over its places finds no rule that fails is accepted.
 pub fn what_is_not_refused_is_accepted()
@@ -35,9 +21,9 @@ pub fn accepted_programs_are_verified()
     ensures { (program : DtalProgram) (accepted : Accepted program) → verified program ≡ Ok accepted.states }
 {}
 
-/// A run of a program's object code is steady.
+/// A run of a program's object code is steady: an end stays, and what was printed stays printed.
 pub fn object_runs_are_steady()
-    ensures { (code : Code) (entry : Option State) → IsSteady (program.outcome_from code entry) }
+    ensures { (code : Code) (entry : Option State) → IsSteady (outcome_from code entry) }
 {}
 
 /// Two words code at most one instruction.

@@ -2,7 +2,7 @@
 
 ghost use Rattle.std.specs.Prelude.{◌≡◌, ◌++◌, OnOk, decimal};
 ghost use Rattle.std.specs.Fmt.{signed_decimal};
-ghost use Rattle.dtal_code.specs.Text.{place_text};
+ghost use Rattle.dtal_code.specs.Places.{place_text};
 
 use itoa::Buffer;
 use xan_lin::Memory;

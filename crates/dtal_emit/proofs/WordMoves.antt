@@ -11,7 +11,7 @@ use Rattle.dtal_code.specs.Instructions.{does, resolved}
 use Rattle.dtal_code.specs.Machine.{Activation, State, On, moved_on, goes_on, after}
 use Rattle.dtal_code.specs.ObjectCode.{Code}
 use Rattle.dtal_code.specs.Running.{words_in, with_words, with_first, goes_with, fetched, performed, done, acts, store_of, step, run}
-use Rattle.dtal_code.proofs.StraightSteps.{length-put, get-put_same, get-put_other}
+use Rattle.dtal_code.proofs.PlaceWords.{length-put, get-put_same, get-put_other}
 use Rattle.dtal_emit.specs.Homes.{is_slot, alone, moved_if, register_of, scratch_behind, loads, registers}
 use Rattle.dtal_emit.proofs.CodePieces.{Has, has_first, has_rest, has_front, has_back}
 

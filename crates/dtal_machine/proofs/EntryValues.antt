@@ -4,7 +4,7 @@ use Rattle.std.proofs.lemmas.List.{drop_all}
 use Rattle.xan_io.specs.declared.arg.Arg.{Arg}
 use Rattle.operation_rules.specs.Entry.{placed}
 use Rattle.operation_rules.specs.FlatWords.{Flat, flat_words}
-use Rattle.dtal_code.specs.Entry.{places_of}
+use Rattle.dtal_code.specs.Places.{places_of}
 use Rattle.dtal_code.specs.Machine.{State}
 use Rattle.dtal_code.specs.Runs.{first_state, entry_state}
 use Rattle.dtal_code.specs.declared.limits.TheConstants.{PLACES}

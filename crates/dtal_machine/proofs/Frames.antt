@@ -6,7 +6,7 @@ use Rattle.std.proofs.lemmas.Bool.{lt-ltb, le-ltb}
 use Rattle.std.proofs.lemmas.List.{take_all, take-append-le, drop-append-le, take-append-drop, length-take-le, length-drop, length-append, length-replicate, drop-set-add, take-set-le}
 use Rattle.std.proofs.lemmas.Option.{slice_get-get_or, same_Some}
 use Rattle.xan_io.specs.Outcome as how
-use Rattle.dtal_code.specs.Entry.{places_of}
+use Rattle.dtal_code.specs.Places.{places_of}
 use Rattle.dtal_code.specs.Machine.{Activation, State, On, Off, returns, moved_on}
 use Rattle.dtal_code.specs.Running.{first_activation, begins}
 use Rattle.dtal_code.specs.declared.limits.TheConstants.{PLACES}

@@ -1,7 +1,7 @@
 //! Calls and returns.
 
 ghost use Rattle.std.specs.Prelude.{◌≡◌, ◌+◌, ◌-◌, ◌*◌, ◌^◌, ◌<◌, ◌≤◌, ℤ, All, IsSome, Some, None, [], ◌∷◌, ◌++◌, length, drop, take, slice_get, slice_set, vec_capacity};
-ghost use Rattle.dtal_code.specs.Entry.{places_of};
+ghost use Rattle.dtal_code.specs.Places.{places_of};
 ghost use Rattle.dtal_code.specs.Guessed.{first_of, second_of, high_of, bytes_in};
 ghost use Rattle.dtal_code.specs.Machine.{returns};
 ghost use Rattle.dtal_code.specs.Running.{begins};

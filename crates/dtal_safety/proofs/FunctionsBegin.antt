@@ -20,7 +20,7 @@ use Rattle.state_types.proofs.Thens.{then_ok, ok_same}
 use Rattle.operation_rules.specs.Faults.{filled}
 use Rattle.operation_rules.proofs.RuleFacts.{OkHolds, assuming_grows, filled_ok}
 use Rattle.dtal_code.specs.Declarations.{stated, numbered, state_of, state_with, first_state}
-use Rattle.dtal_code.specs.Entry.{places_of}
+use Rattle.dtal_code.specs.Places.{places_of}
 use Rattle.dtal_code.specs.Verdicts.{by_rule}
 use Rattle.dtal_safety.specs.Fitting.{word_at, Holds}
 use Rattle.dtal_safety.proofs.ProperStates.{ruled_ok}

@@ -8,7 +8,7 @@ use Rattle.operation_rules.specs.declared.operation.Operation.TheVariants as ope
 use Rattle.operation_rules.specs.declared.operation.Operation.TheVariants.{Jump, Return}
 use Rattle.dtal_code.specs.Grammar.{IsListed, IsOpIn, is_last}
 use Rattle.dtal_code.specs.Instructions.{Instruction, instruction_of, instruction_in, resolved}
-use Rattle.dtal_code.specs.Text.{IsRegister, IsPlace}
+use Rattle.dtal_code.specs.Places.{IsRegister, IsPlace}
 use Rattle.dtal_code.specs.declared.instruction.Op.{Op}
 use Rattle.dtal_code.specs.declared.instruction.Op.TheVariants as op
 

@@ -14,7 +14,7 @@ use Rattle.dtal_code.specs.Machine.{Activation, State, Next, On, Off, goes_on, r
 use Rattle.dtal_code.specs.ObjectCode.{Code, code_of}
 use Rattle.dtal_code.specs.Running.{first_activation, at_instruction, store_of, words_in, goes_with, with_words, begins, acts, done, fetched, stands, step, run, comes_to}
 use Rattle.dtal_code.specs.Safety.{touches, touched_with, touched_at, touched_by, touched, IsSafe}
-use Rattle.dtal_code.specs.Touched.{IsAllocated, words_after}
+use Rattle.dtal_code.specs.Allocated.{IsAllocated, words_after}
 use Rattle.dtal_code.specs.declared.object.RunOp.{RunOp}
 use Rattle.dtal_code.specs.declared.program.DtalProgram.{DtalProgram}
 use Rattle.dtal_safety.specs.Fitting.{StateFits}

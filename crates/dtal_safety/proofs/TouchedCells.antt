@@ -16,7 +16,7 @@ use Rattle.operation_rules.proofs.FlatStores.{flat_stores}
 use Rattle.dtal_code.specs.Machine.{State}
 use Rattle.dtal_code.specs.Running.{store_of}
 use Rattle.dtal_code.specs.Safety.{addresses_from, touches}
-use Rattle.dtal_code.specs.Touched.{IsAllocated}
+use Rattle.dtal_code.specs.Allocated.{IsAllocated}
 
 -- the used words behind an effect
 abbrev pub left_by : State → Effect Flat → List ℤ

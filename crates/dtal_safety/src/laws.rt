@@ -12,7 +12,7 @@ ghost use Rattle.dtal_code.specs.ObjectCode.{Code, code_of};
 ghost use Rattle.dtal_code.specs.Running.{step, comes_to};
 ghost use Rattle.dtal_code.specs.Runs.{program_entry};
 ghost use Rattle.dtal_code.specs.Safety.{touched, IsSafe, RunsSafely};
-ghost use Rattle.dtal_code.specs.Touched.{IsAllocated, words_after};
+ghost use Rattle.dtal_code.specs.Allocated.{IsAllocated, words_after};
 ghost use Rattle.dtal_code.specs.declared.program.DtalProgram.{DtalProgram};
 ghost use Rattle.dtal_safety.specs.Fitting.{StateFits};
 

@@ -23,7 +23,7 @@ use Rattle.dtal_code.specs.declared.limits.TheConstants.{LAST_NUMBER}
 use Rattle.dtal_code.specs.declared.program.LabelState.{LabelState}
 use Rattle.dtal_code.specs.Grammar.{IsTyIn, IsTypedPlace, IsLabelState, AreLinesIn}
 use Rattle.dtal_code.specs.Spelling.{each_behind, joined, ty_text, typed_place, quantifier_text, by_line}
-use Rattle.dtal_code.specs.Text.{place_text, IsPlace}
+use Rattle.dtal_code.specs.Places.{place_text, IsPlace}
 use Rattle.dtal_text.specs.LineReading.{register_or_slot, place_from, typed_place_from, state_of, typed_places, label_state, proof}
 use Rattle.dtal_text.specs.Listings.{rising}
 use Rattle.dtal_text.specs.TypeReading.{one_type, quantifier}

@@ -23,7 +23,7 @@ use Rattle.dtal_code.specs.declared.instruction.Op.TheVariants as op
 use Rattle.dtal_code.specs.declared.limits.TheConstants.{LAST_NUMBER, MOST_LISTED}
 use Rattle.dtal_code.specs.Grammar.{IsNumber, IsTypeNumber, IsFormIn, IsListed, IsOpIn, IsValue, IsEdge, IsWay, is_last}
 use Rattle.dtal_code.specs.Spelling.{joined, list_text, truth_text, comparison_text, op_text, has_edge, value_text, edge_text, way_text}
-use Rattle.dtal_code.specs.Text.{place_text, IsRegister, IsPlace}
+use Rattle.dtal_code.specs.Places.{place_text, IsRegister, IsPlace}
 use Rattle.dtal_text.specs.declared.word.OpWord.{OpWord}
 use Rattle.dtal_text.specs.declared.word.OpWord.TheVariants as word_of
 use Rattle.dtal_text.specs.Places.{register, place}

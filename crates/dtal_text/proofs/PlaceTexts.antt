@@ -8,7 +8,7 @@ use Rattle.xan_read.specs.Spelled.{Any, Spelled, IsBetween}
 use Rattle.xan_read.proofs.ReaderLaws.{exact-made, exact-behind, exact-where_comes, exact_as, after_other}
 use Rattle.xan_read.proofs.NumberLaws.{exact-number}
 use Rattle.xan_read.proofs.SpelledLaws.{spelled_number, spelled_behind}
-use Rattle.dtal_code.specs.Text.{place_text, IsRegister, IsPlace}
+use Rattle.dtal_code.specs.Places.{place_text, IsRegister, IsPlace}
 use Rattle.dtal_text.specs.Places.{register, place}
 
 pub register_text : (n : ℕ) → n < 16 → place_text n ≡ codes "r" ++ decimal n

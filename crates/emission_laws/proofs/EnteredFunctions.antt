@@ -12,12 +12,12 @@ use Rattle.three_address.specs.declared.typed.Edge.{Edge}
 use Rattle.dtal_code.specs.declared.instruction.Instr.{Instr}
 use Rattle.dtal_code.specs.declared.instruction.Op.TheVariants as op
 use Rattle.dtal_code.specs.declared.object.RunOp.TheVariants as run_op
-use Rattle.dtal_code.specs.Entry.{places_of}
+use Rattle.dtal_code.specs.Places.{places_of}
 use Rattle.dtal_code.specs.Instructions.{resolved}
 use Rattle.dtal_code.specs.Machine.{Activation, State}
 use Rattle.dtal_code.specs.ObjectCode.{Code}
 use Rattle.dtal_code.specs.Running as run
-use Rattle.dtal_code.proofs.StraightSteps.{length-put, get-put_same, get-put_other, get_within}
+use Rattle.dtal_code.proofs.PlaceWords.{length-put, get-put_same, get-put_other, get_within}
 use Rattle.dtal_emit.specs.Acting.{takes_places}
 use Rattle.dtal_emit.specs.Homes.{home_of, homes_of, is_slot, alone, moved_if, loads, entry_move, entry_moves}
 use Rattle.dtal_emit.specs.Emitted.{fewer, emitted_instr, emitted_all, by_kind}

@@ -5,7 +5,7 @@ use Rattle.std.proofs.lemmas.Bool.Decides.{nat_tests}
 use Rattle.std.proofs.lemmas.Option.{none-some, same_Some}
 use Rattle.three_address.specs.Machine as low
 use Rattle.dtal_code.specs.Running.{words_in, with_words, with_first}
-use Rattle.dtal_code.proofs.StraightSteps.{length-put, get-put_same, get-put_other}
+use Rattle.dtal_code.proofs.PlaceWords.{length-put, get-put_same, get-put_other}
 use Rattle.dtal_emit.specs.Homes.{home_of, homes_of}
 use Rattle.emission_laws.specs.ApartHomes.{IsHome}
 

@@ -21,7 +21,7 @@ use Rattle.dtal_code.specs.Instructions.{instruction_of, resolved}
 use Rattle.dtal_code.specs.Machine.{Activation}
 use Rattle.dtal_code.specs.ObjectCode.{Code}
 use Rattle.dtal_code.specs.Running.{words_in, with_words}
-use Rattle.dtal_code.proofs.StraightSteps.{length-put, get-put_same, get-put_other}
+use Rattle.dtal_code.proofs.PlaceWords.{length-put, get-put_same, get-put_other}
 use Rattle.dtal_emit.specs.Acting.{takes_places, acting}
 use Rattle.dtal_emit.specs.Homes.{home_of, homes_of, is_slot, alone, moved_if, loads, registers, results, stores, entry_moves}
 use Rattle.dtal_emit.specs.Emitted.{fewer, emitted_instr, emitted_all, with_edge, over_registers, by_kind, with_parts}

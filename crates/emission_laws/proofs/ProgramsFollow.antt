@@ -32,7 +32,7 @@ use Rattle.dtal_code.specs.Instructions.{resolved}
 use Rattle.dtal_code.specs.Machine.{Activation}
 use Rattle.dtal_code.specs.ObjectCode.{Code, code_of, target_in, program_size, start_of, start_or, main_start}
 use Rattle.dtal_code.specs.Runs as runs
-use Rattle.dtal_code.proofs.StraightSteps.{length-places_of}
+use Rattle.dtal_code.proofs.PlaceWords.{length-places_of}
 use Rattle.dtal_emit.specs.Homes.{entry_moves}
 use Rattle.dtal_emit.specs.Emitted.{fewer, emitted_all, emitted_fun, emitted_funs, emitted}
 use Rattle.dtal_safety.proofs.CodeFound.{code_found, start_there}

@@ -2,7 +2,7 @@ use Rattle.std.proofs.Common.{arith, ◌∙◌, sym, subst, ap, ◌++◌, ◌∷
 use Rattle.std.specs.List.{All}
 use Rattle.std.proofs.lemmas.List.Elements.{All-nil, All-cons, All-append}
 use Rattle.dtal_code.specs.Guessed.{bytes_in}
-use Rattle.dtal_code.specs.Text.{IsPlace}
+use Rattle.dtal_code.specs.Places.{IsPlace}
 use Rattle.dtal_code.proofs.WordBytes.{next_byte}
 use Rattle.dtal_code.proofs.decoding.listed.Goals as goal
 

@@ -1,7 +1,7 @@
 use Rattle.std.proofs.Common.{◌≡◌, ◌++◌, ◌+◌, length}
 use Rattle.std.specs.List.{All}
 use Rattle.dtal_code.specs.Guessed.{bytes_in}
-use Rattle.dtal_code.specs.Text.{IsPlace}
+use Rattle.dtal_code.specs.Places.{IsPlace}
 use Rattle.dtal_code.proofs.decoding.listed.Given as goal
 
 -- what is made, and then the bytes of the rest, are all

@@ -2,7 +2,7 @@ use Rattle.std.proofs.Common.{◌≡◌, ◌∙◌, ap, sym, subst, ℕ, suc, �
 use Rattle.std.specs.List.{All, slice_get, slice_index_or}
 use Rattle.std.proofs.lemmas.List.Elements.{All-append, All-cons, All-nil}
 use Rattle.std.proofs.lemmas.Option.{slice_get-get_or}
-use Rattle.dtal_code.specs.Entry.{places_of}
+use Rattle.dtal_code.specs.Places.{places_of}
 use Rattle.dtal_code.specs.Guessed.{first_of, second_of, high_of, bytes_in}
 use Rattle.dtal_code.specs.Machine.{Activation, On}
 use Rattle.dtal_code.specs.Running.{first_activation, begins}

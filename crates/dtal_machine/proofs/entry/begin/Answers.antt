@@ -3,7 +3,7 @@ use Rattle.std.specs.List.{All}
 use Rattle.std.proofs.lemmas.List.Elements.{All-nil}
 use Rattle.operation_rules.specs.Entry.{placed}
 use Rattle.operation_rules.specs.FlatWords.{Flat, flat_words}
-use Rattle.dtal_code.specs.Entry.{places_of}
+use Rattle.dtal_code.specs.Places.{places_of}
 use Rattle.dtal_code.specs.Runs.{entry_state, empty_store}
 use Rattle.dtal_machine.specs.declared.run.Caller.{Caller}
 use Rattle.dtal_machine.specs.declared.run.Run.{Run}
