@@ -19,8 +19,8 @@ use Rattle.xanadu_parser.specs.Kinds.{kinds_of}
 use Rattle.xanadu_parser.specs.Declarations.{declarations_from, declarations}
 use Rattle.xanadu_parser.specs.Parsing.{first_at, fault_at, tree_or_fault, program, parsed, Answers}
 use Rattle.xanadu_parser.specs.Faults.{Begins, IsFault, IsAnswer}
-use Rattle.xanadu_parser.proofs.SpelledLanguages.{spelled-append, spelled-split, spelled-none}
-use Rattle.xanadu_parser.proofs.IndexLaws.{all_parts}
+use Rattle.xanadu_parser.proofs.ProductionLaws.{spelled-append, spelled-split, spelled-none}
+use Rattle.xanadu_parser.proofs.CommaLists.{all_parts}
 use Rattle.xanadu_parser.proofs.ProgramLaws.{AreTexts, headed, found_all, FaultyAll, faulty_all, whole_all}
 
 -- ---- declarations one after the other, in the words of the grammar

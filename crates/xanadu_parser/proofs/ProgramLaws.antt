@@ -11,8 +11,9 @@ use Rattle.xan_read.specs.Symbols.{OneThen}
 use Rattle.xan_read.proofs.AlikeLaws.{alike_through, done, failed, ok_parts, err_is}
 use Rattle.xanadu_parser.specs.Reader.{Read}
 use Rattle.xanadu_parser.specs.Declarations.{declaration, declarations_from}
-use Rattle.xanadu_parser.proofs.SpelledLanguages.{Said}
-use Rattle.xanadu_parser.proofs.DeclarationLaws.{FitsDeclaration, exact-declaration}
+use Rattle.xanadu_parser.proofs.TokenSets.{ends-nothing}
+use Rattle.xanadu_parser.proofs.ProductionLaws.{Said, said}
+use Rattle.xanadu_parser.proofs.DeclarationLaws.{FitsDeclaration, a-declaration}
 
 abbrev pub IsText : plain.Declaration → List Token → Type 0
 IsText = Said FitsDeclaration declaration_pieces
@@ -76,7 +77,7 @@ module _ (most : ℕ) where
       by_item : (r : Read plain.Declaration) → declaration room (t ∷ ts) ≡ r → (r >>= λ d. declarations_from room count (found ++ d.0 ∷ []) d.1) ≡ Ok (ys, rest)
           → ((x : plain.Declaration) (later : List Token) → length later ≤ count → declarations_from room count (found ++ x ∷ []) later ≡ Ok (ys, rest) → FoundAll (found ++ x ∷ []) later ys rest) → FoundAll found (t ∷ ts) ys rest
       by_item (Ok x) e1 e2 others =
-          let f = (exact-declaration most).found room (t ∷ ts) x.0 x.1 le e1 in
+          let f = (said (a-declaration most)).found room (t ∷ ts) x.0 x.1 le e1 in
           let less : length x.1 ≤ count = omega (arith, ap length f.parts, length-append f.front x.1, some_tokens x.0 f.front f.is) in
           let g = others x.0 x.1 less e2 in
           record {
@@ -99,7 +100,7 @@ module _ (most : ℕ) where
 
   here : (tokens : List Token) (left room : ℕ) → room ≤ most → 1 ≤ length tokens → length tokens < 1 + room → declaration room tokens ≡ Err left → FaultyAll tokens left
   here tokens left room le some fits e =
-      let f = (exact-declaration most).faulty room tokens left le fits e in
+      let f = (said (a-declaration most)).faulty room tokens left le fits e in
       record {
         xs = f.value ∷ [];
         front = f.front;
@@ -119,7 +120,7 @@ module _ (most : ℕ) where
 
   later_one : (tokens : List Token) (left room : ℕ) (x : plain.Declaration) (later : List Token) → room ≤ most → declaration room tokens ≡ Ok (x, later) → FaultyAll later left → FaultyAll tokens left
   later_one tokens left room x later le e g =
-      let f = (exact-declaration most).found room tokens x later le e in
+      let f = (said (a-declaration most)).found room tokens x later le e in
       record {
         xs = x ∷ g.xs;
         front = f.front ++ g.front;
@@ -156,7 +157,7 @@ module _ (most : ℕ) where
       by_item : (r : Read plain.Declaration) → declaration room (t ∷ ts) ≡ r → (r >>= λ d. declarations_from room count (found ++ d.0 ∷ []) d.1) ≡ Err left
           → ((x : plain.Declaration) (later : List Token) → length later < 1 + room → length later ≤ count → declarations_from room count (found ++ x ∷ []) later ≡ Err left → FaultyAll later left) → FaultyAll (t ∷ ts) left
       by_item (Ok x) e1 e2 others =
-          let f = (exact-declaration most).found room (t ∷ ts) x.0 x.1 le e1 in
+          let f = (said (a-declaration most)).found room (t ∷ ts) x.0 x.1 le e1 in
           let short : length x.1 < 1 + room = omega (arith, ap length f.parts, length-append f.front x.1) in
           let less : length x.1 ≤ count = omega (arith, ap length f.parts, length-append f.front x.1, some_tokens x.0 f.front f.is) in
           later_one (t ∷ ts) left room x.0 x.1 le e1 (others x.0 x.1 short less e2)
@@ -173,6 +174,6 @@ module _ (most : ℕ) where
       let c : length is.back ≤ count = omega (arith, ap length is.parts, length-append is.front is.back, some_tokens x is.front is.first) in
       let d : 1 ≤ length (is.front ++ is.back) = omega (arith, length-append is.front is.back, some_tokens x is.front is.first) in
       ap (λ (t : List Token). declarations_from room (suc count) found t) is.parts
-      ∙ one room count found (is.front ++ is.back) x is.back d ((exact-declaration most).whole room x is.front is.back le a is.first tt)
+      ∙ one room count found (is.front ++ is.back) x is.back d ((said (a-declaration most)).whole room x is.front is.back le a is.first (ends-nothing is.back))
       ∙ whole_all xs count room (found ++ x ∷ []) is.back le b c is.others
       ∙ ap (λ (l : List plain.Declaration). done l []) (append_assoc found (x ∷ []) xs)

@@ -1,361 +1,234 @@
--- Statements in which no block stands are read exactly.
-use Rattle.std.proofs.Common.{◌≡◌, ℕ, ◌≤◌, false, List, [], ◌∷◌, ◌++◌, Option, Some, None, refl, sym, ap, subst, append_assoc, arith, ◌⊎◌, inl, inr}
+-- Statements and blocks are read exactly.
+use Rattle.std.proofs.Common.{◌≡◌, ℕ, zero, suc, true, false, List, [], ◌∷◌, ◌++◌, Option, Some, None, refl, sym, ap, subst, ◌∙◌, append_assoc, inl, inr}
 use Rattle.xanadu_lexer.specs.declared.keyword.Keyword.{Keyword}
 use Rattle.xanadu_lexer.specs.declared.keyword.Keyword.TheVariants as word_of
 use Rattle.xanadu_lexer.specs.declared.symbol.Symbol.TheVariants as symbol
 use Rattle.xanadu_lexer.specs.declared.token.Token.{Token}
+use Rattle.xanadu_lexer.specs.declared.token.TokenKind.{TokenKind}
 use Rattle.xanadu_lexer.specs.declared.token.TokenKind.TheVariants as kind
 use Rattle.xanadu_tree.specs.declared.tree.declaration.Identifier.{Identifier}
 use Rattle.xanadu_tree.specs.PlainTree as plain
-use Rattle.xanadu_tree.specs.PlainTreeOf.{to_indices, to_expressions}
-use Rattle.xanadu_tree.specs.Pieces.{Piece, Spelled, word_at, mark as mark_piece, mark_at, behind_commas, with_commas, optional}
+use Rattle.xanadu_tree.specs.PlainTreeOf.{to_indices, to_expressions, to_branch, to_statements}
+use Rattle.xanadu_tree.specs.Pieces.{Piece, Spelled, mark as mark_piece, word_at, with_commas, optional}
 use Rattle.xanadu_tree.specs.Spelling as spelling
-use Rattle.xanadu_tree.specs.Spelling.{semicolon, expression_pieces, indices_pieces, arguments_pieces, statement_pieces}
-use Rattle.xanadu_tree.specs.Written.{IsSome, WhereGiven, AreExpressions, AreIndices, IsStatement, PlacedExpressions, PlacedIndices, PlacedStatement}
-use Rattle.xan_read.specs.Combinators.{give, made, in_turn, InTurn}
-use Rattle.xan_read.specs.Symbols.{eat, take, where_comes, behind, before}
-use Rattle.xan_read.specs.Rooms.{ExactWithin}
-use Rattle.xan_read.proofs.RoomLaws.{within-as, within-in_turn}
+use Rattle.xanadu_tree.specs.Spelling.{semicolon, expression_pieces, indices_pieces, arguments_pieces, statement_pieces, branch_pieces, block_pieces, statements_pieces, clause_pieces, clause_behind}
+use Rattle.xanadu_tree.specs.Written.{IsSome, WhereGiven, IsClause, IsStatement, IsBranch, IsBlock, AreStatements, PlacedClause, PlacedStatement, PlacedBranch, PlacedBlock, PlacedStatements}
+use Rattle.xan_read.specs.Combinators.{made, in_turn}
+use Rattle.xan_read.specs.Symbols.{take, Closed}
+use Rattle.xan_read.specs.Rooms.{Example}
+use Rattle.xan_read.proofs.RoomLaws.{within-as}
+use Rattle.xan_read.proofs.UntilLaws.{within-until}
 use Rattle.xanadu_parser.specs.Reader.{Family}
-use Rattle.xanadu_parser.specs.Tables.{mark, keyword, lower, is_keyword}
-use Rattle.xanadu_parser.specs.Expressions.{expression, arguments, indices}
+use Rattle.xanadu_parser.specs.Tables.{mark}
+use Rattle.xanadu_parser.specs.Types as types
 use Rattle.xanadu_parser.specs.Statements as read
-use Rattle.xanadu_parser.proofs.SpelledLanguages.{Said, Formed, Any, Ends, spelled-append, spelled-split, said-take, formed-give, formed-made, formed-field, formed-behind, said-of, said-choice, said-choice-any, formed-of, said-before, ends-mark}
-use Rattle.xanadu_parser.proofs.SayingLists.{said-separated}
-use Rattle.xanadu_parser.proofs.Taken.{at_0, mark-kind, keyword-table, lower-table}
-use Rattle.xanadu_parser.proofs.Follows.{by_mark, no_mark, ends_at, mark-none, keyword-none, not_taken}
-use Rattle.xanadu_parser.proofs.IndexLaws.{no_comma, no_comma_comma}
-use Rattle.xanadu_parser.proofs.ExpressionLaws.{FitsExpression, FitExpressions, closed_arguments, arguments_said, after_expression, after_postfix, no_expression, then_paren, list_of, list_of-is}
-use Rattle.xanadu_parser.proofs.LevelLaws.{exact-expression, indices_said, FitIndices, from_indices, from_indices-is}
+use Rattle.xanadu_parser.proofs.Deeper.{exact-none, exact-deeper}
+use Rattle.xanadu_parser.proofs.TokenSets.{Ends, Starts, ends-nothing, class, among, more}
+use Rattle.xanadu_parser.proofs.TokenTables.{at_0, mark-at, mark-any, word-at, word-any, a-lower}
+use Rattle.xanadu_parser.proofs.ProductionLaws.{Law, Formed, Said, said, law-give, law-take, law-made, law-choice, law-field, law-token, law-behind, law-before, law-sets, law-parts, reads, spelled-append, spelled-split, spelled-first, spelled-none, some-tokens, follows, eat-ends}
+use Rattle.xanadu_parser.proofs.CommaLists.{law-commas, law-through}
+use Rattle.xanadu_parser.proofs.IndexLaws.{names, comma, left_brace}
+use Rattle.xanadu_parser.proofs.TypeLaws.{a-clause, left_paren}
+use Rattle.xanadu_parser.proofs.ExpressionLaws.{FitsExpression, FitExpressions, FitIndices, closed_arguments, expression_heads, indices_of, expressions_of, left_bracket, some-or-no-arguments, some-indices, an-expression}
 
 -- ---- parts
 
-abbrev pub then_semicolon : plain.Expression → List Piece
-then_semicolon e = expression_pieces e ++ semicolon
-
-abbrev Name : Identifier → List Piece
-Name x = spelling.lower x ∷ []
-
-names_split : (xs : List Identifier) → IsSome xs → (q : Identifier × List Identifier) × (xs ≡ (q.0 ∷ []) ++ q.1) × (Unit {0} × Unit {0})
-names_split [] some = absurd some
-names_split (x ∷ xs) some = ((x, xs), refl, (tt, tt))
-
-exact_names : (most slack : ℕ) → ExactWithin most slack (λ _. read.names) (Said IsSome (with_commas Name)) (Ends (by_mark no_comma))
+some-names : {most : ℕ} → Law most true (λ _. read.names) (λ xs. xs) IsSome (with_commas (λ x. spelling.lower x ∷ [])) names false comma
 unfolding read.names
-exact_names most slack = said-of most slack (λ _. read.names) (λ (q : Identifier × List Identifier). (q.0 ∷ []) ++ q.1) (λ _. Unit {0} × Unit {0}) (λ q. Name q.0 ++ behind_commas Name q.1) IsSome (with_commas Name)
-    (Ends (by_mark no_comma)) (Ends (by_mark no_comma))
-    (said-separated most slack (mark symbol.Comma) (kind.Symbol symbol.Comma) (λ _. take lower) (λ _. Unit {0}) Name (λ _. Unit {0}) (behind_commas Name)
-    (λ _. Unit {0}) (Ends (by_mark no_comma)) (mark-kind symbol.Comma) (said-take most slack lower (λ _. Unit {0}) spelling.lower (λ _. Unit {0}) lower-table) (λ _ _ _. tt)
-    (λ rest h. (tt, no_mark no_comma symbol.Comma no_comma_comma rest h)) refl (λ x xs. refl) tt (λ _ _ _ _. tt) (λ _ _ _. (tt, tt)))
-    (λ q _. tt) (λ q. refl) names_split (λ _ h. h)
+some-names = reads (law-commas (law-take a-lower) refl) (λ xs f. (f.0, refl)) (λ xs f. (xs, refl, (f, λ _ _ _. tt))) refl
 
-abbrev E_ : Family plain.Expression
-E_ = expression
+then-semicolon : {most : ℕ} → Law most false (λ room. read.ended room) (λ e. e) FitsExpression (λ e. expression_pieces e ++ semicolon) expression_heads false []
+unfolding read.ended
+then-semicolon {most} = law-sets (law-before (mark-any symbol.Semicolon) (an-expression most) refl) refl
 
-module _ (most : ℕ) (Stops : List Token → Type 0) where
-  ended_said : ExactWithin most 0 (λ room. read.ended room) (Said FitsExpression then_semicolon) Stops
-  unfolding read.ended
-  ended_said = said-before most 0 (mark symbol.Semicolon) (kind.Symbol symbol.Semicolon) E_ FitsExpression expression_pieces (Ends (by_mark after_expression)) Stops (mark-kind symbol.Semicolon) (at_0 (kind.Symbol symbol.Semicolon)) refl (exact-expression most)
-      (λ token rest is. ends_at after_expression token rest (kind.Symbol symbol.Semicolon) is refl)
+a-test : {most : ℕ} → Law most true (λ room. read.condition room) (λ e. e) FitsExpression (λ e. mark_piece symbol.LeftParen ∷ (expression_pieces e ++ (mark_piece symbol.RightParen ∷ []))) left_paren false []
+unfolding read.condition
+a-test {most} = law-behind (mark-any symbol.LeftParen) (law-before (mark-any symbol.RightParen) (an-expression most) refl)
 
-  -- an expression in parentheses
-  pub test_said : ExactWithin most 0 (λ room. read.condition room) (Said FitsExpression (λ e. mark_piece symbol.LeftParen ∷ then_paren e)) Stops
-  unfolding read.condition
-  test_said = said-of most 0 (λ room. read.condition room) (λ (e : plain.Expression). e) FitsExpression (λ e. mark_piece symbol.LeftParen ∷ then_paren e) FitsExpression (λ e. mark_piece symbol.LeftParen ∷ then_paren e) Stops Stops
-      (formed-behind most 0 0 (mark symbol.LeftParen) (kind.Symbol symbol.LeftParen) (λ room. before (mark symbol.RightParen) (expression room)) (λ e. e) FitsExpression then_paren Stops (mark-kind symbol.LeftParen) (at_0 (kind.Symbol symbol.LeftParen)) refl
-      (formed-of most 0 (λ room. before (mark symbol.RightParen) (expression room)) FitsExpression then_paren (λ e. e) FitsExpression then_paren Stops
-      (said-before most 0 (mark symbol.RightParen) (kind.Symbol symbol.RightParen) E_ FitsExpression expression_pieces (Ends (by_mark after_expression)) Stops (mark-kind symbol.RightParen) (at_0 (kind.Symbol symbol.RightParen)) refl (exact-expression most)
-      (λ token rest is. ends_at after_expression token rest (kind.Symbol symbol.RightParen) is refl))
-      (λ e f. f) (λ e. refl) (λ e f. (e, refl, f))) (omega arith))
-      (λ e f. f) (λ e. refl) (λ e f. (e, refl, f)) (λ _ h. h)
+-- a clause behind its keyword
+clause-behind : {most : ℕ} (w : Keyword) → Law most true (λ _. types.clause_behind w) (λ o. o) (λ o. WhereGiven IsClause o × WhereGiven PlacedClause o) (optional (clause_behind w)) (kind.Keyword w ∷ []) true (kind.Keyword w ∷ [])
+unfolding types.clause_behind
+clause-behind w = law-parts (law-choice (word-any w) (λ _. law-made Some a-clause) (law-give None) (λ _ _ _. refl) refl)
+    (elim [ inl q ↦ λ f. (Some q.1, refl, f.1, refl) | inr u ↦ λ _. (None, refl, (tt, tt), refl) ]) (elim [ Some c ↦ λ f. (inl (0, c), refl, (tt, f), refl) | None ↦ λ _. (inr tt, refl, tt, refl) ])
 
-  declared_said : (at : ℕ) → ExactWithin most 0 (λ room. read.declared room at) (Formed (λ (z : Identifier × plain.Expression). plain.Declare z.0 z.1 at) (λ z. Unit {0} × FitsExpression z.1) (λ z. Name z.0 ++ (mark_piece symbol.Equal ∷ then_semicolon z.1))) Stops
-  unfolding read.declared
-  declared_said at = formed-field most 0 0 (λ _. take lower) (λ name room. behind (mark symbol.Equal) (made (λ e. plain.Declare name e at) (read.ended room))) (λ name e. plain.Declare name e at) (λ _. Unit {0}) FitsExpression Name
-      (λ e. mark_piece symbol.Equal ∷ then_semicolon e) (λ _. Unit {0}) Stops (said-take most 0 lower (λ _. Unit {0}) spelling.lower (λ _. Unit {0}) lower-table)
-      (λ name. formed-behind most 0 0 (mark symbol.Equal) (kind.Symbol symbol.Equal) (λ room. made (λ e. plain.Declare name e at) (read.ended room)) (λ e. plain.Declare name e at) FitsExpression then_semicolon Stops (mark-kind symbol.Equal) (at_0 (kind.Symbol symbol.Equal)) refl
-      (formed-made most 0 (λ e. plain.Declare name e at) (λ room. read.ended room) FitsExpression then_semicolon Stops ended_said) (omega arith))
-      (λ _ _ _. omega arith) (λ _ _ _ _ _ _. tt)
-
-  split_said : (at : ℕ) → ExactWithin most 0 (λ room. read.split room at) (Formed (λ (z : List Identifier × plain.Expression). plain.Split z.0 z.1 at) (λ z. IsSome z.0 × FitsExpression z.1)
-      (λ z. mark_piece symbol.LeftParen ∷ (with_commas Name z.0 ++ (mark_piece symbol.RightParen ∷ mark_piece symbol.Equal ∷ then_semicolon z.1)))) Stops
-  unfolding read.split
-  split_said at = formed-behind most 0 0 (mark symbol.LeftParen) (kind.Symbol symbol.LeftParen) (λ room. in_turn read.names (λ xs. behind (mark symbol.RightParen) (behind (mark symbol.Equal) (made (λ e. plain.Split xs e at) (read.ended room)))))
-      (λ z. plain.Split z.0 z.1 at) (λ z. IsSome z.0 × FitsExpression z.1) (λ z. with_commas Name z.0 ++ (mark_piece symbol.RightParen ∷ mark_piece symbol.Equal ∷ then_semicolon z.1)) Stops (mark-kind symbol.LeftParen) (at_0 (kind.Symbol symbol.LeftParen)) refl
-      (formed-field most 0 0 (λ _. read.names) (λ xs room. behind (mark symbol.RightParen) (behind (mark symbol.Equal) (made (λ e. plain.Split xs e at) (read.ended room)))) (λ xs e. plain.Split xs e at) IsSome FitsExpression (with_commas Name)
-      (λ e. mark_piece symbol.RightParen ∷ mark_piece symbol.Equal ∷ then_semicolon e) (Ends (by_mark no_comma)) Stops (exact_names most 0)
-      (λ xs. formed-behind most 0 0 (mark symbol.RightParen) (kind.Symbol symbol.RightParen) (λ room. behind (mark symbol.Equal) (made (λ e. plain.Split xs e at) (read.ended room))) (λ e. plain.Split xs e at) FitsExpression (λ e. mark_piece symbol.Equal ∷ then_semicolon e) Stops
-      (mark-kind symbol.RightParen) (at_0 (kind.Symbol symbol.RightParen)) refl
-      (formed-behind most 0 0 (mark symbol.Equal) (kind.Symbol symbol.Equal) (λ room. made (λ e. plain.Split xs e at) (read.ended room)) (λ e. plain.Split xs e at) FitsExpression then_semicolon Stops (mark-kind symbol.Equal) (at_0 (kind.Symbol symbol.Equal)) refl
-      (formed-made most 0 (λ e. plain.Split xs e at) (λ room. read.ended room) FitsExpression then_semicolon Stops ended_said) (omega arith)) (omega arith))
-      (λ _ _ _. omega arith) (λ e text rest f h after. ends-mark (by_mark no_comma) (mark_piece symbol.RightParen) (mark_piece symbol.Equal ∷ then_semicolon e) text rest h refl)) (omega arith)
-
--- ---- `return`
-
-abbrev behind_return : plain.Statement → List Piece
-behind_return (plain.Return o at) = optional expression_pieces o ++ semicolon
-behind_return _ = []
-
-abbrev IsReturn : ℕ → plain.Statement → Type 0
-IsReturn at s = (o : Option plain.Expression) × (s ≡ plain.Return o at) × WhereGiven FitsExpression o
-
-abbrev GivesValue : ℕ → plain.Statement → Type 0
-GivesValue at s = (e : plain.Expression) × (s ≡ plain.Return (Some e) at) × FitsExpression e
-
-module _ (most : ℕ) (Stops : List Token → Type 0) where
-  returned_said : (at : ℕ) → ExactWithin most 0 (λ room. read.returned room at) (Formed (λ o. plain.Return o at) (WhereGiven FitsExpression) (λ o. optional expression_pieces o ++ semicolon)) Stops
-  unfolding read.returned
-  returned_said at = formed-of most 0 (λ room. read.returned room at) (IsReturn at) behind_return (λ o. plain.Return o at) (WhereGiven FitsExpression) (λ o. optional expression_pieces o ++ semicolon) Stops
-      (said-choice-any most 0 0 (mark symbol.Semicolon) (kind.Symbol symbol.Semicolon) (λ _ _. give (plain.Return None at)) (λ room. made (λ e. plain.Return (Some e) at) (read.ended room)) (λ (_ : Unit {0}). plain.Return None at) (λ _. Unit {0}) (λ _. [])
-      (GivesValue at) (IsReturn at) behind_return Stops Stops (mark-kind symbol.Semicolon) (λ _. formed-give most 0 (plain.Return None at) Stops)
-      (said-of most 0 (λ room. made (λ e. plain.Return (Some e) at) (read.ended room)) (λ e. plain.Return (Some e) at) FitsExpression then_semicolon (GivesValue at) behind_return Stops Stops
-      (formed-made most 0 (λ e. plain.Return (Some e) at) (λ room. read.ended room) FitsExpression then_semicolon Stops (ended_said most Stops))
-      (λ e f. (e, refl, f)) (λ e. refl) (λ s g. (g.0, g.1, g.2)) (λ _ h. h))
-      (omega arith) (λ _ _. (None, refl, tt)) (λ _. refl) (λ s g. (Some g.0, g.1, g.2)) split stops)
-      (λ o f. (o, refl, f)) (λ o. refl) (λ s r. (r.0, r.1, r.2))
-    where
-      by_option : (s : plain.Statement) (o : Option plain.Expression) → s ≡ plain.Return o at → WhereGiven FitsExpression o → ((z : Unit {0}) × (s ≡ plain.Return None at) × Unit {0}) ⊎ GivesValue at s
-      by_option s None e f = inl (tt, e, tt)
-      by_option s (Some v) e f = inr (v, e, f)
-
-      split : (s : plain.Statement) → IsReturn at s → ((z : Unit {0}) × (s ≡ plain.Return None at) × Unit {0}) ⊎ GivesValue at s
-      split s r = by_option s r.0 r.1 r.2
-
-      stops : (s : plain.Statement) (text rest : List Token) → GivesValue at s → Spelled (behind_return s) text → Stops rest → Stops rest × (eat (mark symbol.Semicolon) (text ++ rest) ≡ None)
-      stops s text rest g h after = (after, no_expression symbol.Semicolon refl refl refl g.0 semicolon text rest (subst (λ (q : List Piece). Spelled q text) (ap behind_return g.1) h))
-
--- ---- assignments and calls
-
-abbrev behind_name : plain.Statement → List Piece
-behind_name (plain.Do f es) = mark_piece symbol.LeftParen ∷ (arguments_pieces es ++ (mark_piece symbol.RightParen ∷ semicolon))
-behind_name (plain.Assign t is v) = indices_pieces is ++ (mark_piece symbol.Equal ∷ then_semicolon v)
-behind_name _ = []
-
-abbrev IsCalled : Identifier → plain.Statement → Type 0
-IsCalled name s = (es : List plain.Expression) × (s ≡ plain.Do name (to_expressions es)) × FitExpressions es
-
-abbrev IsAssigned : Identifier → plain.Statement → Type 0
-IsAssigned name s = (z : List (plain.Expression × ℕ) × plain.Expression) × (s ≡ plain.Assign name (to_indices z.0) z.1) × (FitIndices z.0 × FitsExpression z.1)
-
-abbrev IsNamedStatement : Identifier → plain.Statement → Type 0
-IsNamedStatement name s = IsCalled name s ⊎ IsAssigned name s
-
--- an assignment's pieces behind its name do not begin with a parenthesis
-no_paren_assigned : (is : List (plain.Expression × ℕ)) (v : plain.Expression) (text rest : List Token) → Spelled (indices_pieces (to_indices is) ++ (mark_piece symbol.Equal ∷ then_semicolon v)) text → eat (mark symbol.LeftParen) (text ++ rest) ≡ None
-unfolding indices_pieces
-no_paren_assigned [] v text rest h = not_taken (mark symbol.LeftParen) (mark_piece symbol.Equal) (then_semicolon v) text rest (λ token is. mark-none symbol.LeftParen token (kind.Symbol symbol.Equal) is refl) h
-no_paren_assigned (i ∷ is) v text rest h = not_taken (mark symbol.LeftParen) (mark_at symbol.LeftBracket i.1)
-    ((expression_pieces i.0 ++ (mark_piece symbol.RightBracket ∷ indices_pieces (to_indices is))) ++ (mark_piece symbol.Equal ∷ then_semicolon v)) text rest (λ token is. mark-none symbol.LeftParen token (kind.Symbol symbol.LeftBracket) is refl) h
-
-abbrev called_parts : List plain.Expression × Unit {0} → List Piece
-called_parts z = closed_arguments z.0 ++ (mark_piece symbol.Semicolon ∷ [])
-
-module _ (most : ℕ) (Stops : List Token → Type 0) where
-  called_said : (name : Identifier) → ExactWithin most 0 (λ room. read.called room name) (Formed (λ (z : List plain.Expression × Unit {0}). plain.Do name (to_expressions z.0)) (λ z. FitExpressions z.0 × Unit {0}) called_parts) Stops
-  unfolding read.called
-  called_said name = formed-field most 0 0 (λ room. arguments (expression room)) (λ es _. behind (mark symbol.Semicolon) (give (plain.Do name (to_expressions es)))) (λ es (_ : Unit {0}). plain.Do name (to_expressions es)) FitExpressions (λ _. Unit {0})
-      closed_arguments (λ _. mark_piece symbol.Semicolon ∷ []) (λ _. Unit {0}) Stops (arguments_said most E_ (exact-expression most) (λ _. Unit {0}))
-      (λ es. formed-behind most 0 0 (mark symbol.Semicolon) (kind.Symbol symbol.Semicolon) (λ _. give (plain.Do name (to_expressions es))) (λ (_ : Unit {0}). plain.Do name (to_expressions es)) (λ _. Unit {0}) (λ _. []) Stops (mark-kind symbol.Semicolon) (at_0 (kind.Symbol symbol.Semicolon)) refl
-      (formed-give most 0 (plain.Do name (to_expressions es)) Stops) (omega arith))
-      (λ _ _ _. omega arith) (λ _ _ _ _ _ _. tt)
-
-  assigned_said : (name : Identifier) → ExactWithin most 0 (λ room. read.assigned room name) (Said (IsAssigned name) behind_name) Stops
-  unfolding read.assigned
-  assigned_said name = said-of most 0 (λ room. read.assigned room name) (λ (z : List (plain.Expression × ℕ) × plain.Expression). plain.Assign name (to_indices z.0) z.1) (λ z. FitIndices z.0 × FitsExpression z.1)
-      (λ z. indices_pieces (to_indices z.0) ++ (mark_piece symbol.Equal ∷ then_semicolon z.1)) (IsAssigned name) behind_name Stops Stops
-      (formed-field most 0 0 (λ room. indices (expression room)) (λ is room. behind (mark symbol.Equal) (made (λ e. plain.Assign name (to_indices is) e) (read.ended room))) (λ is e. plain.Assign name (to_indices is) e) FitIndices FitsExpression
-      (λ is. indices_pieces (to_indices is)) (λ e. mark_piece symbol.Equal ∷ then_semicolon e) (Ends (by_mark after_postfix)) Stops
-      (said-of most 0 (λ room. indices (expression room)) (λ is. is) FitIndices (λ is. indices_pieces (to_indices is)) FitIndices (λ is. indices_pieces (to_indices is)) (Ends (by_mark after_postfix)) (Ends (by_mark after_postfix))
-      (indices_said most E_ (exact-expression most) 0 (omega arith)) (λ is f. f) (λ is. refl) (λ is f. (is, refl, f)) (λ _ h. h))
-      (λ is. formed-behind most 0 0 (mark symbol.Equal) (kind.Symbol symbol.Equal) (λ room. made (λ e. plain.Assign name (to_indices is) e) (read.ended room)) (λ e. plain.Assign name (to_indices is) e) FitsExpression then_semicolon Stops (mark-kind symbol.Equal) (at_0 (kind.Symbol symbol.Equal)) refl
-      (formed-made most 0 (λ e. plain.Assign name (to_indices is) e) (λ room. read.ended room) FitsExpression then_semicolon Stops (ended_said most Stops)) (omega arith))
-      (λ _ _ _. omega arith) (λ e text rest f h after. ends-mark (by_mark after_postfix) (mark_piece symbol.Equal) (then_semicolon e) text rest h refl))
-      (λ z f. (z, refl, f)) (λ z. refl) (λ s a. (a.0, a.1, a.2)) (λ _ h. h)
-
-  behind_name_said : (name : Identifier) → ExactWithin most 0 (λ room. where_comes (mark symbol.LeftParen) (λ _. read.called room name) (read.assigned room name)) (Said (IsNamedStatement name) behind_name) Stops
-  behind_name_said name = said-choice-any most 0 0 (mark symbol.LeftParen) (kind.Symbol symbol.LeftParen) (λ _ room. read.called room name) (λ room. read.assigned room name) (λ (z : List plain.Expression × Unit {0}). plain.Do name (to_expressions z.0)) (λ z. FitExpressions z.0 × Unit {0}) called_parts
-      (IsAssigned name) (IsNamedStatement name) behind_name Stops Stops (mark-kind symbol.LeftParen) (λ _. called_said name) (assigned_said name) (omega arith)
-      (λ z f. inl (z.0, refl, f.0)) (λ z. ap (λ (p : List Piece). mark_piece symbol.LeftParen ∷ p) (sym (append_assoc (arguments_pieces (to_expressions z.0)) (mark_piece symbol.RightParen ∷ []) (mark_piece symbol.Semicolon ∷ [])))) (λ s a. inr a) split
-      (λ s text rest a h after. (after, no_paren_assigned a.0.0 a.0.1 text rest (subst (λ (q : List Piece). Spelled q text) (ap behind_name a.1) h)))
-    where
-      split : (s : plain.Statement) → IsNamedStatement name s → ((z : List plain.Expression × Unit {0}) × (s ≡ plain.Do name (to_expressions z.0)) × (FitExpressions z.0 × Unit {0})) ⊎ IsAssigned name s
-      split s (inl c) = inl ((c.0, tt), c.1, (c.2, tt))
-      split s (inr a) = inr a
-
--- ---- all statements
+abbrev FitsBlock : plain.Block → Type 0
+FitsBlock b = IsBlock b × PlacedBlock b
 
 abbrev pub FitsStatement : plain.Statement → Type 0
 FitsStatement s = IsStatement s × PlacedStatement s
 
--- how many forms are tried before this one
-abbrev pub rank : plain.Statement → ℕ
-rank (plain.If t y n c at) = 0
-rank (plain.While t c b at) = 1
-rank (plain.Declare x e at) = 2
-rank (plain.Split xs e at) = 3
-rank (plain.Print e at) = 4
-rank (plain.Return o at) = 5
-rank (plain.Do f es) = 6
-rank (plain.Assign t is e) = 6
+abbrev FitsBranch : plain.Branch → Type 0
+FitsBranch b = IsBranch b × PlacedBranch b
 
-abbrev pub From : ℕ → plain.Statement → Type 0
-From n s = FitsStatement s × (n ≤ rank s)
+branch_of : (t : plain.Branch) → (o : Option plain.Block) × (t ≡ to_branch o)
+branch_of plain.NoBranch = (None, refl)
+branch_of (plain.ABranch b) = (Some b, refl)
 
-abbrev pub first_piece : plain.Statement → Piece
-first_piece (plain.If t y n c at) = word_at word_of.If at
-first_piece (plain.While t c b at) = word_at word_of.While at
-first_piece (plain.Declare x e at) = word_at word_of.Var at
-first_piece (plain.Split xs e at) = word_at word_of.Let at
-first_piece (plain.Print e at) = word_at word_of.Print at
-first_piece (plain.Return o at) = word_at word_of.Return at
-first_piece (plain.Do f es) = spelling.lower f
-first_piece (plain.Assign t is e) = spelling.lower t
+statements_of : (t : plain.Statements) → (xs : List plain.Statement) × (t ≡ to_statements xs)
+statements_of plain.NoStatement = ([], refl)
+statements_of (plain.AStatement s more) = let p = statements_of more in (s ∷ p.0, ap (plain.AStatement s) p.1)
 
-abbrev pub later_pieces : plain.Statement → List Piece
-later_pieces (plain.If t y n c at) = mark_piece symbol.LeftParen ∷ (expression_pieces t ++ (mark_piece symbol.RightParen ∷ (spelling.block_pieces y ++ (spelling.branch_pieces n ++ optional (spelling.clause_behind word_of.Join) c))))
-later_pieces (plain.While t c b at) = mark_piece symbol.LeftParen ∷ (expression_pieces t ++ (mark_piece symbol.RightParen ∷ (optional (spelling.clause_behind word_of.With) c ++ spelling.block_pieces b)))
-later_pieces (plain.Declare x e at) = spelling.lower x ∷ mark_piece symbol.Equal ∷ then_semicolon e
-later_pieces (plain.Split xs e at) = mark_piece symbol.LeftParen ∷ (with_commas (λ x. spelling.lower x ∷ []) xs ++ (mark_piece symbol.RightParen ∷ mark_piece symbol.Equal ∷ then_semicolon e))
-later_pieces (plain.Print e at) = then_semicolon e
-later_pieces (plain.Return o at) = optional expression_pieces o ++ semicolon
-later_pieces (plain.Do f es) = mark_piece symbol.LeftParen ∷ (arguments_pieces es ++ (mark_piece symbol.RightParen ∷ semicolon))
-later_pieces (plain.Assign t is e) = indices_pieces is ++ (mark_piece symbol.Equal ∷ then_semicolon e)
+-- ---- statements in which no block stands, behind the token that they begin with
 
-pub statement_split : (s : plain.Statement) → statement_pieces s ≡ first_piece s ∷ later_pieces s
-unfolding statement_pieces
-statement_split (plain.If t y n c at) = refl
-statement_split (plain.While t c b at) = refl
-statement_split (plain.Declare x e at) = refl
-statement_split (plain.Split xs e at) = refl
-statement_split (plain.Print e at) = refl
-statement_split (plain.Return o at) = refl
-statement_split (plain.Do f es) = refl
-statement_split (plain.Assign t is e) = refl
+a-return : {most : ℕ} (at : ℕ) → Law most false (λ room. read.returned room at) (λ o. plain.Return o at) (WhereGiven FitsExpression) (λ o. optional expression_pieces o ++ semicolon) (kind.Symbol symbol.Semicolon ∷ expression_heads) false []
+unfolding read.returned
+a-return at = law-sets (law-parts (law-choice (mark-any symbol.Semicolon) (λ _. law-give (plain.Return None at)) (law-made (λ e. plain.Return (Some e) at) then-semicolon) (λ _ _ _. refl) refl)
+    (elim [ inl z ↦ λ _. (None, refl, tt, refl) | inr e ↦ λ f. (Some e, refl, f, refl) ]) (elim [ None ↦ λ _. (inl (0, tt), refl, (tt, tt), refl) | Some e ↦ λ f. (inr e, refl, f, refl) ])) refl
 
--- a keyword that the statement does not begin with
-pub not_word : (wanted : Keyword) (s : plain.Statement) (text rest : List Token) → is_keyword wanted (first_piece s).kind ≡ false → Spelled (statement_pieces s) text → eat (keyword wanted) (text ++ rest) ≡ None
-not_word wanted s text rest other h =
-    not_taken (keyword wanted) (first_piece s) (later_pieces s) text rest (λ token is. keyword-none wanted token (first_piece s).kind is other) (subst (λ (q : List Piece). Spelled q text) (statement_split s) h)
+a-call : {most : ℕ} (name : Identifier) → Law most false (λ room. read.called room name) (λ es. plain.Do name es) FitExpressions (λ es. closed_arguments es ++ semicolon) (kind.Symbol symbol.RightParen ∷ expression_heads) false []
+unfolding read.called
+a-call {most} name = law-through expressions_of (λ es. plain.Do name es) FitExpressions (λ es. closed_arguments es ++ semicolon) (law-parts (law-field (some-or-no-arguments (an-expression most)) (λ es. law-behind (mark-any symbol.Semicolon) (law-give (plain.Do name (to_expressions es)))) refl)
+    (λ q f. (q.0, refl, f.0, refl)) (λ es f. ((es, tt), refl, (f, tt), refl)))
 
-no_return : (s : plain.Statement) → 6 ≤ rank s → is_keyword word_of.Return (first_piece s).kind ≡ false
-no_return (plain.Return o at) less = absurd (omega arith)
-no_return _ less = refl
+an-assignment : {most : ℕ} (name : Identifier) → Law most true (λ room. read.assigned room name) (λ (q : plain.Indices × plain.Expression). plain.Assign name q.0 q.1) (λ q. FitIndices q.0 × FitsExpression q.1) (λ q. indices_pieces q.0 ++ (mark_piece symbol.Equal ∷ (expression_pieces q.1 ++ semicolon)))
+    (kind.Symbol symbol.Equal ∷ left_bracket) false []
+unfolding read.assigned
+an-assignment {most} name = law-sets (law-parts (law-field (some-indices (an-expression most)) (λ is. law-behind (mark-any symbol.Equal) (law-made (λ e. plain.Assign name (to_indices is) e) then-semicolon)) refl)
+    (λ q f. ((to_indices q.0, q.1), refl, f, refl))
+    (λ q f. let p = indices_of q.0 in ((p.0, q.1), ap (λ is. plain.Assign name is q.1) p.1, (subst FitIndices p.1 f.0, f.1), ap (λ is. indices_pieces is ++ (mark_piece symbol.Equal ∷ (expression_pieces q.1 ++ semicolon))) (sym p.1)))) refl
 
-no_print : (s : plain.Statement) → 5 ≤ rank s → is_keyword word_of.Print (first_piece s).kind ≡ false
-no_print (plain.Print e at) less = absurd (omega arith)
-no_print _ less = refl
+-- ---- statements, over the reader of the blocks in them
 
-no_let : (s : plain.Statement) → 4 ≤ rank s → is_keyword word_of.Let (first_piece s).kind ≡ false
-no_let (plain.Split xs e at) less = absurd (omega arith)
-no_let _ less = refl
+abbrev statement_heads : List TokenKind
+statement_heads = kind.Keyword word_of.If ∷ kind.Keyword word_of.While ∷ kind.Keyword word_of.Var ∷ kind.Keyword word_of.Let ∷ kind.Keyword word_of.Print ∷ kind.Keyword word_of.Return ∷ names
 
-no_var : (s : plain.Statement) → 3 ≤ rank s → is_keyword word_of.Var (first_piece s).kind ≡ false
-no_var (plain.Declare x e at) less = absurd (omega arith)
-no_var _ less = refl
+abbrev statement_stops : List TokenKind
+statement_stops = kind.Keyword word_of.Else ∷ kind.Keyword word_of.Join ∷ []
 
-pub no_while : (s : plain.Statement) → 2 ≤ rank s → is_keyword word_of.While (first_piece s).kind ≡ false
-no_while (plain.While t c b at) less = absurd (omega arith)
-no_while _ less = refl
+abbrev FitStatements : plain.Statements → Type 0
+FitStatements ss = AreStatements ss × PlacedStatements ss
 
-pub no_if : (s : plain.Statement) → 1 ≤ rank s → is_keyword word_of.If (first_piece s).kind ≡ false
-no_if (plain.If t y n c at) less = absurd (omega arith)
-no_if _ less = refl
+abbrev closed_statements : plain.Statements → List Piece
+closed_statements ss = statements_pieces ss ++ (mark_piece symbol.RightBrace ∷ [])
 
-of_name : (name : Identifier) (s : plain.Statement) → IsNamedStatement name s → From 6 s × (statement_pieces s ≡ spelling.lower name ∷ behind_name s)
-unfolding IsStatement PlacedStatement statement_pieces
-of_name name s (inl c) = subst (λ (u : plain.Statement). From 6 u × (statement_pieces u ≡ spelling.lower name ∷ behind_name u)) (sym c.1) ((c.2, omega arith), refl)
-of_name name s (inr a) = subst (λ (u : plain.Statement). From 6 u × (statement_pieces u ≡ spelling.lower name ∷ behind_name u)) (sym a.1) ((((a.2.0.0, a.2.1.0), (a.2.0.1, a.2.1.1)), omega arith), refl)
+abbrev IsText : plain.Statement → List Token → Type 0
+IsText = Said FitsStatement statement_pieces
 
-name_of : (s : plain.Statement) → From 6 s → (name : Identifier) × IsNamedStatement name s
-unfolding IsStatement PlacedStatement
-name_of (plain.Do f es) fits = (f, inl (list_of es, ap (plain.Do f) (list_of-is es), (subst AreExpressions (list_of-is es) fits.0.0, subst PlacedExpressions (list_of-is es) fits.0.1)))
-name_of (plain.Assign t is e) fits = (
-  t,
-  inr (
-    (from_indices is, e),
-    ap (λ (l : plain.Indices). plain.Assign t l e) (from_indices-is is),
-    ((subst AreIndices (from_indices-is is) fits.0.0.0, subst PlacedIndices (from_indices-is is) fits.0.1.0), (fits.0.0.1, fits.0.1.1)),
-  ),
-)
-name_of _ fits = absurd (omega (arith, fits.1))
+abbrev AreClosed : List plain.Statement → List Token → Type 0
+AreClosed = Closed (mark symbol.RightBrace) IsText
 
-module _ (most : ℕ) (Stops : List Token → Type 0) where
-  named_said : ExactWithin most 0 (λ room. read.named room) (Said (From 6) statement_pieces) Stops
-  unfolding read.named
-  named_said = within-as most 0 (λ room. read.named room) (InTurn (Said (λ _. Unit {0}) Name) (λ name. Said (IsNamedStatement name) behind_name)) (Said (From 6) statement_pieces) Stops Stops
-      (within-in_turn most 0 0 (λ _. take lower) (λ name room. where_comes (mark symbol.LeftParen) (λ _. read.called room name) (read.assigned room name)) (Said (λ _. Unit {0}) Name) (λ name. Said (IsNamedStatement name) behind_name)
-      (λ _. Unit {0}) Stops (said-take most 0 lower (λ _. Unit {0}) spelling.lower (λ _. Unit {0}) lower-table) (λ name _ _. behind_name_said most Stops name) (λ _ _ _. omega arith) (λ _ _ _ _ _ _. tt))
-      into from (λ _ h. h)
+closed_said : (ss : List plain.Statement) (text : List Token) → AreClosed ss text → FitStatements (to_statements ss) × Spelled (closed_statements (to_statements ss)) text
+unfolding AreStatements PlacedStatements statements_pieces
+closed_said [] text e = ((tt, tt), subst (λ (l : List Token). Spelled (mark_piece symbol.RightBrace ∷ []) l) (sym e.parts) (((mark-any symbol.RightBrace).into e.symbol e.value e.decides).1, tt))
+closed_said (s ∷ ss) text o =
+    let more = closed_said ss o.back o.others in (
+      ((o.first.fits.0, more.0.0), (o.first.fits.1, more.0.1)),
+      subst (λ (l : List Token). Spelled (closed_statements (to_statements (s ∷ ss))) l) (sym o.parts)
+          (subst (λ (p : List Piece). Spelled p (o.front ++ o.back)) (sym (append_assoc (statement_pieces s) (statements_pieces (to_statements ss)) (mark_piece symbol.RightBrace ∷ [])))
+          (spelled-append (statement_pieces s) (closed_statements (to_statements ss)) o.front o.back o.first.spelled more.1)),
+    )
+
+said_closed : (ss : List plain.Statement) (text : List Token) → FitStatements (to_statements ss) → Spelled (closed_statements (to_statements ss)) text → AreClosed ss text
+unfolding AreStatements PlacedStatements statements_pieces
+said_closed [] text fits h = let f = spelled-first (mark_piece symbol.RightBrace) [] text h in
+    record { symbol = f.token; value = f.token.at; decides = (mark-any symbol.RightBrace).back f.token 0 tt f.is; parts = f.parts ∙ ap (λ (l : List Token). f.token ∷ l) (spelled-none f.back f.others) }
+said_closed (s ∷ ss) text fits h =
+    let p = spelled-split (statement_pieces s) (closed_statements (to_statements ss)) text
+    (subst (λ (q : List Piece). Spelled q text) (append_assoc (statement_pieces s) (statements_pieces (to_statements ss)) (mark_piece symbol.RightBrace ∷ [])) h) in
+    record {
+      front = p.front;
+      back = p.back;
+      first = record { fits = (fits.0.0, fits.1.0); spelled = p.first };
+      others = said_closed ss p.back (fits.0.1, fits.1.1) p.second;
+      parts = p.parts;
+    }
+
+module _ {most : ℕ} {inner : Family plain.Block} (exact : Law most false inner (λ b. b) FitsBlock block_pieces left_brace false []) where
+  a-branch : Law most true (λ room. read.otherwise room (inner room)) (λ o. o) (λ o. FitsBranch (to_branch o)) (λ o. branch_pieces (to_branch o)) (kind.Keyword word_of.Else ∷ []) true (kind.Keyword word_of.Else ∷ [])
+  unfolding read.otherwise IsBranch PlacedBranch branch_pieces
+  a-branch = law-parts (law-choice (word-any word_of.Else) (λ _. law-made Some exact) (law-give None) (λ _ _ _. refl) refl)
+      (elim [ inl q ↦ λ f. (Some q.1, refl, f.1, refl) | inr u ↦ λ _. (None, refl, (tt, tt), refl) ]) (elim [ Some b ↦ λ f. (inl (0, b), refl, (tt, f), refl) | None ↦ λ _. (inr tt, refl, tt, refl) ])
+
+  a-statement : Law most true (λ room. read.statement room (inner room)) (λ s. s) FitsStatement statement_pieces statement_heads false statement_stops
+  unfolding read.statement read.branches read.repeated_block read.simple read.declared read.split read.named IsStatement PlacedStatement statement_pieces
+  a-statement = reads (law-choice (word-at word_of.If) (λ at. law-field a-test (λ t. law-field exact (λ y. law-field a-branch (λ n. law-made (λ c. plain.If t y (to_branch n) c at) (clause-behind word_of.Join)) refl) refl) refl)
+      (law-choice (word-at word_of.While) (λ at. law-field a-test (λ t. law-field (clause-behind word_of.With) (λ c. law-made (λ b. plain.While t c b at) exact) refl) refl)
+      (law-choice (word-at word_of.Var) (λ at. law-field (law-take a-lower) (λ name. law-behind (mark-any symbol.Equal) (law-made (λ e. plain.Declare name e at) then-semicolon)) refl)
+      (law-choice (word-at word_of.Let) (λ at. law-behind (mark-any symbol.LeftParen) (law-field some-names (λ xs. law-behind (mark-any symbol.RightParen) (law-behind (mark-any symbol.Equal) (law-made (λ e. plain.Split xs e at) then-semicolon))) refl))
+      (law-choice (word-at word_of.Print) (λ at. law-made (λ e. plain.Print e at) then-semicolon)
+      (law-choice (word-at word_of.Return) a-return
+      (law-token a-lower (λ name. law-choice (mark-any symbol.LeftParen) (λ _. a-call name) (an-assignment name) (λ _ _ _. refl) refl) (λ _ _ _. refl))
+      (λ _ _ _. refl) refl) (λ _ _ _. refl) refl) (λ _ _ _. refl) refl) (λ _ _ _. refl) refl) (λ _ _ _. refl) refl) (λ _ _ _. refl) refl)
+      (elim [
+        | inl (at, z) ↦ λ f. (
+          ((f.1.0.0, f.1.1.0.0, f.1.1.1.0.0, f.1.1.1.1.0), (f.1.0.1, f.1.1.0.1, f.1.1.1.0.1, f.1.1.1.1.1)),
+          ap (λ (p : List Piece). word_at word_of.If at ∷ mark_piece symbol.LeftParen ∷ p) (append_assoc (expression_pieces z.0) (mark_piece symbol.RightParen ∷ []) _),
+        )
+        | inr (inl (at, z)) ↦ λ f. (
+          ((f.1.0.0, f.1.1.0.0, f.1.1.1.0), (f.1.0.1, f.1.1.0.1, f.1.1.1.1)),
+          ap (λ (p : List Piece). word_at word_of.While at ∷ mark_piece symbol.LeftParen ∷ p) (append_assoc (expression_pieces z.0) (mark_piece symbol.RightParen ∷ []) _),
+        )
+        | inr (inr (inl (at, z))) ↦ λ f. (f.1.1, refl)
+        | inr (inr (inr (inl (at, z)))) ↦ λ f. (((f.1.0, f.1.1.0), f.1.1.1), refl)
+        | inr (inr (inr (inr (inl (at, e))))) ↦ λ f. (f.1, refl)
+        | inr (inr (inr (inr (inr (inl (at, None)))))) ↦ λ f. ((tt, tt), refl)
+        | inr (inr (inr (inr (inr (inl (at, Some e)))))) ↦ λ f. (f.1, refl)
+        | inr (inr (inr (inr (inr (inr (name, inl (at, es))))))) ↦ λ f. (
+          f.1.1,
+          ap (λ (p : List Piece). spelling.lower name ∷ mark_piece symbol.LeftParen ∷ p) (append_assoc (arguments_pieces es) (mark_piece symbol.RightParen ∷ []) semicolon),
+        )
+        | inr (inr (inr (inr (inr (inr (name, inr z)))))) ↦ λ f. (((f.1.0.0, f.1.1.0), (f.1.0.1, f.1.1.1)), refl)
+      ])
+      (elim [
+        | plain.If t y n c at ↦ λ f. let p = branch_of n in (inl (at, (t, (y, (p.0, c)))), ap (λ b. plain.If t y b c at) p.1, (tt, ((f.0.0, f.1.0), ((f.0.1, f.1.1), (subst FitsBranch p.1 (f.0.2, f.1.2), (f.0.3, f.1.3))))))
+        | plain.While t c b at ↦ λ f. (inr (inl (at, (t, (c, b)))), refl, (tt, ((f.0.0, f.1.0), ((f.0.1, f.1.1), (f.0.2, f.1.2)))))
+        | plain.Declare x e at ↦ λ f. (inr (inr (inl (at, (x, e)))), refl, (tt, (tt, f)))
+        | plain.Split xs e at ↦ λ f. (inr (inr (inr (inl (at, (xs, e))))), refl, (tt, (f.0.0, (f.0.1, f.1))))
+        | plain.Print e at ↦ λ f. (inr (inr (inr (inr (inl (at, e))))), refl, (tt, f))
+        | plain.Return None at ↦ λ _. (inr (inr (inr (inr (inr (inl (at, None)))))), refl, (tt, tt))
+        | plain.Return (Some e) at ↦ λ f. (inr (inr (inr (inr (inr (inl (at, Some e)))))), refl, (tt, f))
+        | plain.Do name es ↦ λ f. (inr (inr (inr (inr (inr (inr (name, inl (0, es))))))), refl, (tt, (tt, f)))
+        | plain.Assign name is e ↦ λ f. (inr (inr (inr (inr (inr (inr (name, inr (is, e))))))), refl, (tt, ((f.0.0, f.1.0), (f.0.1, f.1.1))))
+      ]) refl
+
+  some-statements : Law most true (λ room. read.statements room (inner room)) (λ ss. ss) (λ ss. FitStatements (to_statements ss)) (λ ss. closed_statements (to_statements ss)) (kind.Symbol symbol.RightBrace ∷ statement_heads) false []
+  unfolding read.statements AreStatements PlacedStatements statements_pieces
+  some-statements = record {
+    exact = within-as most 1 (λ room. read.statements room (inner room)) AreClosed (Formed (λ ss. ss) (λ ss. FitStatements (to_statements ss)) (λ ss. closed_statements (to_statements ss))) (Ends []) (Ends [])
+        (within-until most 1 (mark symbol.RightBrace) (λ room. read.statement room (inner room)) IsText (Ends statement_stops) (said a-statement)
+        (let brace = mark-any symbol.RightBrace in record { value = tt; text = brace.token ∷ []; is = record { symbol = brace.token; value = brace.sample; decides = brace.is; parts = refl } })
+        (λ s front f. some-tokens statement_heads false (statement_pieces s) front (a-statement.starts s f.fits) f.spelled refl)
+        (λ s front rest f. eat-ends (mark symbol.RightBrace) (kind.Symbol symbol.RightBrace ∷ []) (mark-any symbol.RightBrace).none (front ++ rest)
+        (follows statement_heads (kind.Symbol symbol.RightBrace ∷ []) false (statement_pieces s) front rest refl (a-statement.starts s f.fits) f.spelled (ends-nothing rest)))
+        (λ s front rest f. follows statement_heads statement_stops false (statement_pieces s) front rest refl (a-statement.starts s f.fits) f.spelled (ends-nothing rest))
+        (λ token a rest e. ap (λ k. among statement_stops (class k)) ((mark-any symbol.RightBrace).into token a e).1.kind) (Ends []))
+        (λ ss text c. let p = closed_said ss text c in record { parts = ss; is = refl; fits = p.0; spelled = p.1 })
+        (λ ss text f. subst (λ (l : List plain.Statement). AreClosed l text) (sym f.is) (said_closed f.parts text f.fits f.spelled)) (λ _ h. h);
+    starts = begins;
+  }
     where
-      into : (s : plain.Statement) (text : List Token) → InTurn (Said (λ _. Unit {0}) Name) (λ name. Said (IsNamedStatement name) behind_name) s text → Said (From 6) statement_pieces s text
-      into s text i = let p = of_name i.value s i.second.fits in record {
-        fits = p.0;
-        spelled = subst (λ (q : List Piece). Spelled q text) (sym p.1)
-            (subst (λ (l : List Token). Spelled (Name i.value ++ behind_name s) l) (sym i.parts) (spelled-append (Name i.value) (behind_name s) i.front i.back i.first.spelled i.second.spelled));
-      }
+      before : (a b : List Piece) → Starts statement_heads false a → Starts (kind.Symbol symbol.RightBrace ∷ statement_heads) false ((a ++ b) ++ (mark_piece symbol.RightBrace ∷ []))
+      before [] b h = absurd cc
+      before (p ∷ a) b h = more statement_heads (kind.Symbol symbol.RightBrace ∷ statement_heads) p.kind refl h
 
-      from : (s : plain.Statement) (text : List Token) → Said (From 6) statement_pieces s text → InTurn (Said (λ _. Unit {0}) Name) (λ name. Said (IsNamedStatement name) behind_name) s text
-      from s text h =
-          let n = name_of s h.fits in
-          let p = of_name n.0 s n.1 in
-          let q = spelled-split (Name n.0) (behind_name s) text (subst (λ (q : List Piece). Spelled q text) p.1 h.spelled) in
-          record { value = n.0; front = q.front; back = q.back; first = record { fits = tt; spelled = q.first }; second = record { fits = n.1; spelled = q.second }; parts = q.parts }
+      begins : (ss : List plain.Statement) → FitStatements (to_statements ss) → Starts (kind.Symbol symbol.RightBrace ∷ statement_heads) false (closed_statements (to_statements ss))
+      begins [] f = refl
+      begins (s ∷ ss) f = before (statement_pieces s) (statements_pieces (to_statements ss)) (a-statement.starts s (f.0.0, f.1.0))
 
-  abbrev Return_ : Family plain.Statement
-  Return_ room = where_comes (keyword word_of.Return) (read.returned room) (read.named room)
+  a-block : Law most true (λ room. in_turn (take (mark symbol.LeftBrace)) (λ at. made (λ ss. plain.BlockOf (to_statements ss) at) (read.statements room (inner room)))) (λ b. b) FitsBlock block_pieces left_brace false []
+  unfolding IsBlock PlacedBlock block_pieces
+  a-block = reads (law-token (mark-at symbol.LeftBrace) (λ at. law-through statements_of (λ ss. plain.BlockOf ss at) FitStatements closed_statements (law-made (λ ss. plain.BlockOf (to_statements ss) at) some-statements)) (λ _ _ _. refl))
+      (λ q f. (f.1, refl)) (elim [ plain.BlockOf ss at ↦ λ f. ((at, ss), refl, (tt, f)) ]) refl
 
-  return_or_later : ExactWithin most 0 Return_ (Said (From 5) statement_pieces) Stops
-  unfolding IsStatement PlacedStatement statement_pieces
-  return_or_later = said-choice most 0 0 (keyword word_of.Return) (λ at room. read.returned room at) (λ room. read.named room) (λ at o. plain.Return o at) Any (λ at. word_at word_of.Return at) (WhereGiven FitsExpression) (λ o. optional expression_pieces o ++ semicolon)
-      (From 6) (From 5) statement_pieces Stops Stops (keyword-table word_of.Return) (λ at. returned_said most Stops at) named_said (omega arith) fits_return (λ at o. refl) (λ s f. (f.0, omega (arith, f.1))) split
-      (λ s text rest f h after. (after, not_word word_of.Return s text rest (no_return s f.1) h))
-    where
-      fits_return : (at : ℕ) (o : Option plain.Expression) → Unit {0} → WhereGiven FitsExpression o → From 5 (plain.Return o at)
-      fits_return at None u f = ((tt, tt), omega arith)
-      fits_return at (Some e) u f = (f, omega arith)
+-- ---- blocks that nest
 
-      split : (s : plain.Statement) → From 5 s → ((at : ℕ) × (o : Option plain.Expression) × (s ≡ plain.Return o at) × Unit {0} × WhereGiven FitsExpression o) ⊎ From 6 s
-      split (plain.Return None at) f = inl (at, None, refl, tt, tt)
-      split (plain.Return (Some e) at) f = inl (at, Some e, refl, tt, f.0)
-      split _ f = inr (f.0, omega (arith, f.1))
+starts-block : (b : plain.Block) → Starts left_brace false (block_pieces b)
+unfolding block_pieces
+starts-block (plain.BlockOf ss at) = refl
 
-  abbrev Print_ : Family plain.Statement
-  Print_ room = where_comes (keyword word_of.Print) (λ at. made (λ e. plain.Print e at) (read.ended room)) (Return_ room)
+empty_block : Example (Formed (λ b. b) FitsBlock block_pieces)
+unfolding IsBlock PlacedBlock AreStatements PlacedStatements block_pieces statements_pieces
+empty_block = record {
+  value = plain.BlockOf plain.NoStatement 0;
+  text = at_0 (kind.Symbol symbol.LeftBrace) ∷ at_0 (kind.Symbol symbol.RightBrace) ∷ [];
+  is = record { parts = plain.BlockOf plain.NoStatement 0; is = refl; fits = (tt, tt); spelled = (record { kind = refl; at = refl }, (record { kind = refl; at = tt }, tt)) };
+}
 
-  print_or_later : ExactWithin most 0 Print_ (Said (From 4) statement_pieces) Stops
-  unfolding IsStatement PlacedStatement statement_pieces
-  print_or_later = said-choice most 0 0 (keyword word_of.Print) (λ at room. made (λ e. plain.Print e at) (read.ended room)) Return_ (λ at e. plain.Print e at) Any (λ at. word_at word_of.Print at) FitsExpression then_semicolon
-      (From 5) (From 4) statement_pieces Stops Stops (keyword-table word_of.Print) (λ at. formed-made most 0 (λ e. plain.Print e at) (λ room. read.ended room) FitsExpression then_semicolon Stops (ended_said most Stops)) return_or_later (omega arith)
-      (λ at e _ f. (f, omega arith)) (λ at e. refl) (λ s f. (f.0, omega (arith, f.1))) split
-      (λ s text rest f h after. (after, not_word word_of.Print s text rest (no_print s f.1) h))
-    where
-      split : (s : plain.Statement) → From 4 s → ((at : ℕ) × (e : plain.Expression) × (s ≡ plain.Print e at) × Unit {0} × FitsExpression e) ⊎ From 5 s
-      split (plain.Print e at) f = inl (at, e, refl, tt, f.0)
-      split _ f = inr (f.0, omega (arith, f.1))
-
-  abbrev Let_ : Family plain.Statement
-  Let_ room = where_comes (keyword word_of.Let) (read.split room) (Print_ room)
-
-  let_or_later : ExactWithin most 0 Let_ (Said (From 3) statement_pieces) Stops
-  unfolding IsStatement PlacedStatement statement_pieces
-  let_or_later = said-choice most 0 0 (keyword word_of.Let) (λ at room. read.split room at) Print_ (λ at (z : List Identifier × plain.Expression). plain.Split z.0 z.1 at) Any (λ at. word_at word_of.Let at) (λ z. IsSome z.0 × FitsExpression z.1)
-      (λ z. mark_piece symbol.LeftParen ∷ (with_commas Name z.0 ++ (mark_piece symbol.RightParen ∷ mark_piece symbol.Equal ∷ then_semicolon z.1)))
-      (From 4) (From 3) statement_pieces Stops Stops (keyword-table word_of.Let) (λ at. split_said most Stops at) print_or_later (omega arith)
-      (λ at z _ f. (((f.0, f.1.0), f.1.1), omega arith)) (λ at z. refl) (λ s f. (f.0, omega (arith, f.1))) split
-      (λ s text rest f h after. (after, not_word word_of.Let s text rest (no_let s f.1) h))
-    where
-      split : (s : plain.Statement) → From 3 s → ((at : ℕ) × (z : List Identifier × plain.Expression) × (s ≡ plain.Split z.0 z.1 at) × Unit {0} × (IsSome z.0 × FitsExpression z.1)) ⊎ From 4 s
-      split (plain.Split xs e at) f = inl (at, (xs, e), refl, tt, (f.0.0.0, (f.0.0.1, f.0.1)))
-      split _ f = inr (f.0, omega (arith, f.1))
-
-  pub simple_said : ExactWithin most 0 (λ room. read.simple room) (Said (From 2) statement_pieces) Stops
-  unfolding IsStatement PlacedStatement statement_pieces read.simple
-  simple_said = said-choice most 0 0 (keyword word_of.Var) (λ at room. read.declared room at) Let_ (λ at (z : Identifier × plain.Expression). plain.Declare z.0 z.1 at) Any (λ at. word_at word_of.Var at) (λ z. Unit {0} × FitsExpression z.1)
-      (λ z. Name z.0 ++ (mark_piece symbol.Equal ∷ then_semicolon z.1))
-      (From 3) (From 2) statement_pieces Stops Stops (keyword-table word_of.Var) (λ at. declared_said most Stops at) let_or_later (omega arith)
-      (λ at z _ f. (f.1, omega arith)) (λ at z. refl) (λ s f. (f.0, omega (arith, f.1))) split
-      (λ s text rest f h after. (after, not_word word_of.Var s text rest (no_var s f.1) h))
-    where
-      split : (s : plain.Statement) → From 2 s → ((at : ℕ) × (z : Identifier × plain.Expression) × (s ≡ plain.Declare z.0 z.1 at) × Unit {0} × (Unit {0} × FitsExpression z.1)) ⊎ From 3 s
-      split (plain.Declare x e at) f = inl (at, (x, e), refl, tt, (tt, f.0))
-      split _ f = inr (f.0, omega (arith, f.1))
+pub some-block : (most : ℕ) → Law most false read.block (λ b. b) FitsBlock block_pieces left_brace false []
+unfolding read.block
+some-block zero = record { exact = exact-none read.block (Formed (λ b. b) FitsBlock block_pieces) (Ends []) empty_block (λ _. refl); starts = λ b _. starts-block b }
+some-block (suc most) = record {
+  exact = exact-deeper most read.block (λ room. in_turn (take (mark symbol.LeftBrace)) (λ at. made (λ ss. plain.BlockOf (to_statements ss) at) (read.statements room (read.block room)))) (Formed (λ b. b) FitsBlock block_pieces) (Ends [])
+      (a-block (some-block most)).exact (λ _. refl) (λ _ _. refl);
+  starts = λ b _. starts-block b;
+}

@@ -83,6 +83,3 @@ module _ {A B : Type 0} (end : Table A) (item : Reader B) where
 pub fails_then : {A B : Type 0} (e : Stop) (r : Result A ℕ) (f : A → Result B ℕ) → Fails e r → Fails e (r >>= f)
 fails_then stop.Memory r f h = tt
 fails_then (stop.Fault n) r f h = ap (λ r. r >>= f) h
-
-pub ok_then : {A B : Type 0} (r : Result A ℕ) (x : A) (f : A → Result B ℕ) (y : Result B ℕ) → r ≡ Ok x → f x ≡ y → (r >>= f) ≡ y
-ok_then r x f y e h = ap (λ r. r >>= f) e ∙ h
