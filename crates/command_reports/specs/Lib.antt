@@ -3,6 +3,7 @@ pub mod Goals
 pub mod Listing
 pub mod Outside
 pub mod Report
+pub mod RunEnds
 pub mod Said
 pub mod Stops
 pub mod Words

@@ -5,6 +5,9 @@ ghost use Rattle.typed_core.specs.Limits as spec;
 
 use xan_lin::{BOUND, LimitKind};
 
+/// The most activations that a run may have at once.
+pub const MOST_DEPTH: u64 = 65_536;
+
 /// How much of each there may be.
 pub fn most(kind: LimitKind) -> u64
     ensures { result ≡ spec.most kind }

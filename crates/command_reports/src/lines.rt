@@ -116,7 +116,7 @@ fn line_of_limit(kind: LimitKind) -> Line
 }
 
 /// A line that is always the same.
-fn line_of_word(word: &str) -> Line
+pub fn line_of_word(word: &str) -> Line
     requires { length word.now ≤ 30 }
     ensures { result.bytes ≡ word.now }
 {
@@ -126,7 +126,7 @@ fn line_of_word(word: &str) -> Line
 }
 
 /// A word, a number and another word.
-fn line_of_number(word: &str, number: u64, more: &str) -> Line
+pub fn line_of_number(word: &str, number: u64, more: &str) -> Line
     requires word { length word.now ≤ 30 }
     requires more { length more.now ≤ 30 }
     ensures { result.bytes ≡ numbered word.now number ++ more.now }

@@ -1,4 +1,5 @@
 pub mod Counts
+pub mod NumberedLines
 pub mod ProgramOf
 pub mod Slots
 pub mod SmallEnds

@@ -1,12 +1,11 @@
-//! What is known of numbers since they stand in memory, and the one test that is left of what a text can write.
+//! What is known of numbers since they stand in memory.
 
-ghost use Rattle.std.specs.Prelude.{◌≡◌, ◌≤◌, All, IfOk, length};
+ghost use Rattle.std.specs.Prelude.{All};
 ghost use Rattle.carried_acceptance.specs.WrittenParts.{AreWritten, HasMultipliers, HasNumbers, HaveMultipliers, HaveNumbers};
+ghost use Rattle.program_builder.specs.NumberedLines.{AreNumberable};
 
-use dtal_code::limits::LAST_NUMBER;
 use proof_lines::Line;
 use three_address::{LowFun, LowInstr, Lowered};
-use xan_io::Memory;
 use xan_seq::Seq;
 
 // Tells of an instruction that its numbers are of 64 and of 32 bits.
@@ -73,23 +72,11 @@ fn tell_proofs(proofs: &[Seq<Line>])
     }
 }
 
-// No proof has more lines than a text can number. One that has would take more memory than there is.
-fn check_lengths(proofs: &[Seq<Line>]) -> Result<(), Memory>
-    ensures { IfOk result (λ _. All (λ lines. length lines ≤ LAST_NUMBER) proofs.now) }
-{
-    for lines in proofs {
-        if lines.as_slice().len() > LAST_NUMBER as usize {
-            return Err(Memory);
-        }
-    }
-    Ok(())
-}
-
-/// The numbers of code and of proofs can be written, unless a proof has more lines than memory holds.
-pub(crate) fn check_written(low: &Lowered, proofs: &[Seq<Line>]) -> Result<(), Memory>
-    ensures { IfOk result (λ _. AreWritten low.now proofs.now) }
+/// The numbers of code and of proofs can be written, where no proof has more lines than a text can number. It computes nothing.
+pub(crate) fn tell_written(low: &Lowered, proofs: &[Seq<Line>])
+    requires { AreNumberable proofs.now }
+    ensures { AreWritten low.now proofs.now }
 {
     tell_functions(low.funs.as_slice());
     tell_proofs(proofs);
-    check_lengths(proofs)
 }

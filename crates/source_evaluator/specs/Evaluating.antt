@@ -73,6 +73,11 @@ pub record BeginsIn (funs : List core.Fun) (m : Machine) : Type 0 where
 
 -- ---- what is put of a run
 
+-- what arguments in which this fault was found have printed, of which there is no run, or the run on them
+abbrev pub printed_by : Option EntryFault → Outcome → List ℤ
+printed_by None run = run.printed
+printed_by (Some fault) run = []
+
 module _ (found : Option EntryFault) (run : Outcome) (out out' : Option (List ℕ)) (faults faults' : ℕ) where
   -- the run has come to this end, and a line was put for each number that it printed
   pub record Ended (end : SourceEnd) : Type 0 where
@@ -97,7 +102,7 @@ module _ (found : Option EntryFault) (run : Outcome) (out out' : Option (List �
   -- memory ran out: whole lines were put, for the numbers that were printed first
   pub record RanShort : Type 0 where
     pub count : ℕ
-    pub lines : out' ≡ append_known out (number_lines (take count run.printed))
+    pub lines : out' ≡ append_known out (number_lines (take count (printed_by found run)))
     pub counted : faults' ≡ faults
 
   -- what is answered of arguments in which this fault was found, and of the run on them

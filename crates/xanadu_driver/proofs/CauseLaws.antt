@@ -3,7 +3,12 @@ use Rattle.std.proofs.Common.{◌≡◌, ◌≢◌, ℕ, Bool, true, false, List
 use Rattle.std.specs.Str.{bytes_eq}
 use Rattle.std.proofs.lemmas.Slice.Eq.{bytes_eq-Decides}
 use Rattle.xan_io.specs.Faults.{Rose}
+use Rattle.xan_io.specs.declared.arg.Arg.{Arg}
+use Rattle.run_options.specs.declared.options.Limits.{Limits}
+use Rattle.source_runs.specs.Runs.{FindsRun}
+use Rattle.xanadu_tree.specs.Plain as plain
 use Rattle.typed_core.specs.declared.goal.GoalAt.{GoalAt}
+use Rattle.xanadu_driver.specs.Finding.{ProvesTold}
 use Rattle.command_reports.specs.declared.answer.Answer.{Answer}
 use Rattle.command_reports.specs.declared.answer.Answer.TheVariants.{Built, NoCommand, ReadFailed, WriteFailed, Memory, Refused}
 use Rattle.command_reports.specs.declared.answer.Counts.{Counts}
@@ -11,16 +16,16 @@ use Rattle.command_reports.specs.declared.refusal.Refusal.{Refusal}
 use Rattle.command_reports.specs.declared.refusal.SourceError.{SourceError}
 use Rattle.command_reports.specs.declared.refusal.SourceError.TheVariants as error
 use Rattle.command_reports.specs.Answers.{Keeps}
-use Rattle.xanadu_driver.specs.Causes.{Unchanged, BuildCauses, GoalsCauses, Causes, Went, NothingFailed}
+use Rattle.xanadu_driver.specs.Causes.{Unchanged, BuildCauses, GoalsCauses, SourceCauses, EvalCauses, Causes, Went, NothingFailed}
 use Rattle.command_reports.specs.Said.{SaidAll, IsReported}
 use Rattle.xanadu_driver.specs.Correct.{Wrote, Cut, Translates}
-use Rattle.xanadu_driver.specs.Fate.{fate, goals_of}
+use Rattle.xanadu_driver.specs.Fate.{fate, goals_of, proved_of}
 use Rattle.command_reports.specs.Outside.{Held, Outside}
-use Rattle.command_reports.specs.Report.{Report, Found, Answered, Listed, report_of}
-use Rattle.xanadu_driver.specs.Reported.{built, listed, report}
+use Rattle.command_reports.specs.Report.{Report, Found, Answered, Listed, Ran, Short, report_of}
+use Rattle.xanadu_driver.specs.Reported.{built, listed, ran, report}
 use Rattle.xanadu_driver.specs.Source.{HasFate, IsRefused}
-use Rattle.command_reports.specs.Words.{Meant, Build, Goals}
-use Rattle.xanadu_driver.proofs.FateLaws.{fate_is, goals_are, goals_refused}
+use Rattle.command_reports.specs.Words.{Meant, Build, Goals, Eval}
+use Rattle.xanadu_driver.proofs.FateLaws.{fate_is, goals_are, goals_refused, proved_is, proved_refused}
 
 -- ---- the cause
 
@@ -60,6 +65,7 @@ abbrev IsOf : Found → Type 0
 IsOf (Answered ReadFailed) = ⊥
 IsOf (Answered WriteFailed) = ⊥
 IsOf (Answered Memory) = ⊥
+IsOf (Short printed) = ⊥
 IsOf _ = Unit {0}
 
 same_report : (a b : Report) → ◌≡◌ {A = Option Report} (Some a) (Some b) → a ≡ b
@@ -113,19 +119,51 @@ goals_report source before after (Answered Memory) r cause of is = absurd of
 goals_report source before after (Listed goals) r cause of is =
     found_report of_goals (before.content source) (Listed goals) r is
     (λ told here. ap (λ (f : Result (List GoalAt) SourceError). report_of (listed f)) (goals_are told goals (cause.has told here)))
+goals_report source before after (Ran printed end) r cause of is = absurd cause
+goals_report source before after (Short printed) r cause of is = absurd of
+
+abbrev of_run : Limits → List Arg → List ℕ → Report
+of_run limits args bytes = report_of (ran limits args (proved_of bytes))
+
+source_report : (source : List ℕ) (limits : Limits) (args : List Arg) (before after : Held) (answer : Answer) (r : Report) → SourceCauses source before after answer
+    → IsOf (Answered answer) → option_map (of_run limits args) (before.content source) ≡ Some r → report_of (Answered answer) ≡ r
+source_report source limits args before after NoCommand r cause of is = absurd cause
+source_report source limits args before after (Refused refusal) r cause of is =
+    found_report (of_run limits args) (before.content source) (Answered (Refused refusal)) r is
+    (λ told here. ap (λ (core : Result plain.Program SourceError). report_of (ran limits args core)) (proved_refused told refusal (cause.refused told here)))
+source_report source limits args before after (Built n) r cause of is = absurd cause
+source_report source limits args before after ReadFailed r cause of is = absurd of
+source_report source limits args before after WriteFailed r cause of is = absurd of
+source_report source limits args before after Memory r cause of is = absurd of
+
+eval_report : (source : List ℕ) (limits : Limits) (args : List Arg) (before after : Held) (found : Found) (r : Report) → EvalCauses source limits args before after found
+    → IsOf found → option_map (of_run limits args) (before.content source) ≡ Some r → report_of found ≡ r
+eval_report source limits args before after (Answered answer) r cause of is = source_report source limits args before after answer r cause of is
+eval_report source limits args before after (Listed goals) r cause of is = absurd cause
+eval_report source limits args before after (Ran printed end) r cause of is =
+    found_report (of_run limits args) (before.content source) (Ran printed end) r is
+    (λ told here.
+    let run = cause.has told here in
+    ap (λ (core : Result plain.Program SourceError). report_of (ran limits args core)) (proved_is told run.core run.made run.has) ∙ ap report_of run.finds)
+eval_report source limits args before after (Short printed) r cause of is = absurd of
 
 caused_report : (meant : Option Meant) (before after : Held) (found : Found) (r : Report) → Causes meant before after found → IsOf found
     → report meant before.content ≡ Some r → report_of found ≡ r
 caused_report None before after (Answered NoCommand) r cause of is = same_report _ r is
 caused_report None before after (Answered ReadFailed) r cause of is = absurd cause
 caused_report None before after (Answered WriteFailed) r cause of is = absurd cause
-caused_report None before after (Answered Memory) r cause of is = absurd cause
+caused_report None before after (Answered Memory) r cause of is = absurd of
 caused_report None before after (Answered (Refused refusal)) r cause of is = absurd cause
 caused_report None before after (Answered (Built n)) r cause of is = absurd cause
 caused_report None before after (Listed goals) r cause of is = absurd cause
+caused_report None before after (Ran printed end) r cause of is = absurd cause
+caused_report None before after (Short printed) r cause of is = absurd of
 caused_report (Some (Build source target)) before after (Answered answer) r cause of is = build_report source target before after answer r cause of is
 caused_report (Some (Build source target)) before after (Listed goals) r cause of is = absurd cause
+caused_report (Some (Build source target)) before after (Ran printed end) r cause of is = absurd cause
+caused_report (Some (Build source target)) before after (Short printed) r cause of is = absurd of
 caused_report (Some (Goals source)) before after found r cause of is = goals_report source before after found r cause of is
+caused_report (Some (Eval source limits args)) before after found r cause of is = eval_report source limits args before after found r cause of is
 
 abbrev all_reported : (meant : Option Meant) (before after : Outside) (found : Found) (status : ℕ) (r : Report) → Causes meant before.files after.files found
     → IsOf found → report meant before.files.content ≡ Some r → SaidAll (report_of found) status before.faults after.faults before.written after.written
@@ -148,6 +186,8 @@ reported_by meant before after (Answered (Refused refusal)) status r cause is al
 reported_by meant before after (Answered (Built n)) status r cause is all three four six =
     all_reported meant before after (Answered (Built n)) status r cause tt is all
 reported_by meant before after (Listed goals) status r cause is all three four six = all_reported meant before after (Listed goals) status r cause tt is all
+reported_by meant before after (Ran printed end) status r cause is all three four six = all_reported meant before after (Ran printed end) status r cause tt is all
+reported_by meant before after (Short printed) status r cause is all three four six = absurd (six all.status_is)
 
 pub went_reported : (meant : Option Meant) (before after : Outside) (status : ℕ) → Went meant before after status → (r : Report)
     → report meant before.files.content ≡ Some r → status ≢ 3 → status ≢ 4 → status ≢ 6 → IsReported r status before.written after.written
@@ -161,9 +201,11 @@ completed_by : (meant : Option Meant) (before after : Outside) (found : Found) (
 completed_by None before after (Answered ReadFailed) status r cause is all nothing = absurd cause
 completed_by (Some (Build source target)) before after (Answered ReadFailed) status r cause is all nothing = absurd (nothing.reads source refl cause.rose)
 completed_by (Some (Goals source)) before after (Answered ReadFailed) status r cause is all nothing = absurd (nothing.reads source refl cause.rose)
+completed_by (Some (Eval source limits args)) before after (Answered ReadFailed) status r cause is all nothing = absurd (nothing.reads source refl cause.rose)
 completed_by None before after (Answered WriteFailed) status r cause is all nothing = absurd cause
 completed_by (Some (Build source target)) before after (Answered WriteFailed) status r cause is all nothing = absurd (nothing.writes target refl cause.rose)
 completed_by (Some (Goals source)) before after (Answered WriteFailed) status r cause is all nothing = absurd cause
+completed_by (Some (Eval source limits args)) before after (Answered WriteFailed) status r cause is all nothing = absurd cause
 completed_by meant before after (Answered Memory) status r cause is all nothing = inr all.status_is
 completed_by meant before after (Answered NoCommand) status r cause is all nothing =
     inl ((all_reported meant before after (Answered NoCommand) status r cause tt is all).status_is)
@@ -173,6 +215,9 @@ completed_by meant before after (Answered (Built n)) status r cause is all nothi
     inl ((all_reported meant before after (Answered (Built n)) status r cause tt is all).status_is)
 completed_by meant before after (Listed goals) status r cause is all nothing =
     inl ((all_reported meant before after (Listed goals) status r cause tt is all).status_is)
+completed_by meant before after (Ran printed end) status r cause is all nothing =
+    inl ((all_reported meant before after (Ran printed end) status r cause tt is all).status_is)
+completed_by meant before after (Short printed) status r cause is all nothing = inr all.status_is
 
 pub went_complete : (meant : Option Meant) (before after : Outside) (status : ℕ) → Went meant before after status → (r : Report)
     → report meant before.files.content ≡ Some r → NothingFailed meant before after → (status ≡ r.status) ⊎ (status ≡ 6)
@@ -191,3 +236,28 @@ caused_build meant source target is before after answer cause = subst (λ m. Cau
 pub caused_goals : (meant : Option Meant) (source : List ℕ) → meant ≡ Some (Goals source) → (before after : Held) (found : Found)
     → GoalsCauses source before after found → Causes meant before after found
 caused_goals meant source is before after found cause = subst (λ m. Causes m before after found) (sym is) cause
+
+-- before the command is known
+pub caused_memory : (meant : Option Meant) (before : Held) → Causes meant before before (Answered Memory)
+caused_memory None before = λ name. refl
+caused_memory (Some (Build source target)) before = λ name. refl
+caused_memory (Some (Goals source)) before = λ name. refl
+caused_memory (Some (Eval source limits args)) before = λ name. refl
+
+-- of the run of a core that the source has
+pub run_causes : (source : List ℕ) (limits : Limits) (args : List Arg) (before after : Held) (core : plain.Program) (found : Found)
+    → ProvesTold (before.content source) core → Unchanged before after → FindsRun core limits args found → EvalCauses source limits args before after found
+run_causes source limits args before after core (Answered answer) proves same finds = absurd finds
+run_causes source limits args before after core (Listed goals) proves same finds = absurd finds
+run_causes source limits args before after core (Ran printed end) proves same finds = record {
+  has = λ told here. (let p = proves told here in record { core = core; made = p.made; has = p.proved; finds = finds });
+  unchanged = same;
+}
+run_causes source limits args before after core (Short printed) proves same finds = record {
+  has = λ told here. (let p = proves told here in record { core = core; made = p.made; has = p.proved; finds = finds });
+  unchanged = same;
+}
+
+pub went_as : (meant : Option Meant) (command : Meant) → meant ≡ Some command → (before after : Outside) (status : ℕ) → Went (Some command) before after status
+    → Went meant before after status
+went_as meant command is before after status went = subst (λ m. Went m before after status) (sym is) went

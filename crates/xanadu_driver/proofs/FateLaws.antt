@@ -15,8 +15,8 @@ use Rattle.command_reports.specs.declared.refusal.Refusal.{Refusal}
 use Rattle.command_reports.specs.declared.refusal.Refusal.TheVariants as refusal
 use Rattle.command_reports.specs.declared.refusal.SourceError.{SourceError}
 use Rattle.command_reports.specs.declared.refusal.SourceError.TheVariants as error
-use Rattle.xanadu_driver.specs.Fate.{Checked, checked_with, core_of, checked_of, goals_of, fate, or_stop, of_walk, none_fails}
-use Rattle.xanadu_driver.specs.Source.{IsCore, IsElaborated, HasGoals, HasFate, IsRefused, IsEarly, counts_of}
+use Rattle.xanadu_driver.specs.Fate.{Checked, checked_with, core_of, checked_of, goals_of, fate, or_stop, of_walk, none_fails, proved_of}
+use Rattle.xanadu_driver.specs.Source.{IsCore, IsElaborated, HasGoals, HasFate, IsRefused, IsEarly, counts_of, IsProved}
 use Rattle.xanadu_driver.proofs.CoreFates.{HasCoreFate, has_core_fate, core_is}
 use Rattle.xanadu_driver.proofs.Fates.{HasNoCore, tree_is_written}
 
@@ -88,6 +88,37 @@ pub fate_is : (bytes : List ℕ) (other : Result Counts SourceError) → HasFate
 fate_is bytes (Ok counts) x = fate_behind bytes x.core x.made None x.has.has x.has.proved ∙ ap (λ (c : Counts). Ok c) (sym x.counted)
 fate_is bytes (Err (error.Refused r)) x = fate_refused bytes r x
 fate_is bytes (Err error.Memory) x = absurd x
+
+-- ---- the core whose goals are proved
+
+abbrev behind_proof : plain.Program → Option Failure → Result plain.Program SourceError
+behind_proof core found = none_fails found >>= λ proved. Ok core
+
+abbrev proved_by : Result Checked SourceError → Result plain.Program SourceError
+proved_by checked = checked >>= λ checked. behind_proof checked.core (first_unproved checked.made.goals)
+
+proved_same : (bytes : List ℕ) → proved_of bytes ≡ proved_by (checked_of bytes)
+unfolding proved_of
+proved_same bytes = refl
+
+proved_behind : (bytes : List ℕ) (core : plain.Program) (made : Elaboration) (found : Option Failure) → IsElaborated bytes core made
+    → first_unproved made.goals ≡ found → proved_of bytes ≡ behind_proof core found
+proved_behind bytes core made found has is = proved_same bytes ∙ ap proved_by (checked_is bytes core made has) ∙ ap (behind_proof core) is
+
+proved_early : (bytes : List ℕ) (r : Refusal) → IsRefused bytes r → IsEarly r → proved_of bytes ≡ Err (error.Refused r)
+proved_early bytes r x early = proved_same bytes ∙ ap proved_by (checked_past bytes r x early)
+
+pub proved_is : (bytes : List ℕ) (core : plain.Program) (made : Elaboration) → IsProved bytes core made → proved_of bytes ≡ Ok core
+proved_is bytes core made is = proved_behind bytes core made None is.has is.proved
+
+pub proved_refused : (bytes : List ℕ) (r : Refusal) → IsRefused bytes r → proved_of bytes ≡ Err (error.Refused r)
+proved_refused bytes (refusal.Goal number at row answer) x = proved_behind bytes x.core x.made _ x.has x.first
+proved_refused bytes refusal.Length x = proved_early bytes refusal.Length x tt
+proved_refused bytes (refusal.Bytes at) x = proved_early bytes (refusal.Bytes at) x tt
+proved_refused bytes refusal.Nesting x = proved_early bytes refusal.Nesting x tt
+proved_refused bytes (refusal.Parse at) x = proved_early bytes (refusal.Parse at) x tt
+proved_refused bytes (refusal.Shape kind at) x = proved_early bytes (refusal.Shape kind at) x tt
+proved_refused bytes (refusal.Past kind) x = proved_early bytes (refusal.Past kind) x tt
 
 pub one_fate : (bytes : List ℕ) (a b : Result Counts SourceError) → HasFate bytes a → HasFate bytes b → a ≡ b
 one_fate bytes a b x y = sym (fate_is bytes a x) ∙ fate_is bytes b y

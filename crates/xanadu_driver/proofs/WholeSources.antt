@@ -1,17 +1,22 @@
 -- A source whose goals are proved, and its text.
-use Rattle.std.proofs.Common.{◌≡◌, ℕ, List, Option, Some, None, Result, Ok, Err, IfOk, sym, ap, ◌∙◌, subst}
+use Rattle.std.proofs.Common.{◌≡◌, ℕ, List, Option, Some, None, Result, Ok, Err, IfOk, sym, ap, ◌∙◌, subst, arith}
 use Rattle.std.specs.Prelude.{Vec}
 use Rattle.std.specs.declared.alloc.Global.{Global}
 use Rattle.xan_io.specs.declared.files.FileRead.{FileRead}
 use Rattle.xan_io.specs.declared.files.FileRead.TheVariants.{Whole}
 use Rattle.xan_io.specs.Contents.{ReadsAs, replaced}
-use Rattle.goal_table.specs.Answers.{AllAreProved}
+use Rattle.goal_table.specs.Answers.{AllAreProved, AreShort}
+use Rattle.program_builder.specs.NumberedLines.{AreNumberable}
 use Rattle.typed_core.specs.Proving.{ElaboratedParts, ProvedParts}
 use Rattle.xanadu_tree.specs.PlainOf.{plain_core}
 use Rattle.command_reports.specs.declared.refusal.SourceError.{SourceError}
 use Rattle.xanadu_driver.specs.declared.translate.Text.{Text}
 use Rattle.xanadu_driver.specs.Correct.{IsTextOf, Translates}
 use Rattle.xanadu_driver.specs.Source.{IsElaborated}
+
+-- a text can number the lines that a buffer holds
+pub short_numberable : (proved : ProvedParts) → AreShort proved.lines → AreNumberable proved.lines
+short_numberable proved short k d within = let few = short k d within in omega (arith, few)
 
 -- the text of an elaborated program whose goals are all proved
 pub whole_text : (source : List ℕ) (base : ElaboratedParts) (proved : ProvedParts) (printed : Result Text SourceError)

@@ -69,6 +69,13 @@ goals_of bytes = do
   checked ← checked_of bytes
   Ok checked.made.goals
 
+-- the core of the source, all of whose goals are proved
+unfoldable pub proved_of : List ℕ → Result plain.Program SourceError
+proved_of bytes = do
+  checked ← checked_of bytes
+  proved ← none_fails (first_unproved checked.made.goals)
+  Ok checked.core
+
 -- how many functions, goals and instructions the source has that is built
 unfoldable pub fate : List ℕ → Result Counts SourceError
 fate bytes = do

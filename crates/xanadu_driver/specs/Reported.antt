@@ -7,8 +7,12 @@ use Rattle.command_reports.specs.declared.answer.Answer.TheVariants as answer
 use Rattle.command_reports.specs.declared.refusal.SourceError.{SourceError}
 use Rattle.command_reports.specs.declared.refusal.SourceError.TheVariants as error
 use Rattle.command_reports.specs.Report.{Report, Found, Answered, Listed, report_of}
-use Rattle.command_reports.specs.Words.{Meant, Build, Goals}
-use Rattle.xanadu_driver.specs.Fate.{fate, goals_of}
+use Rattle.command_reports.specs.Words.{Meant, Build, Goals, Eval}
+use Rattle.run_options.specs.declared.options.Limits.{Limits}
+use Rattle.source_runs.specs.Runs.{run_found}
+use Rattle.xan_io.specs.declared.arg.Arg.{Arg}
+use Rattle.xanadu_tree.specs.Plain as plain
+use Rattle.xanadu_driver.specs.Fate.{fate, goals_of, proved_of}
 
 abbrev pub stopped : SourceError → Answer
 stopped (error.Refused refusal) = answer.Refused refusal
@@ -24,9 +28,15 @@ abbrev pub listed : Result (List GoalAt) SourceError → Found
 listed (Ok goals) = Listed goals
 listed (Err stop) = Answered (stopped stop)
 
+-- what is found of the run of a source with this core
+abbrev pub ran : Limits → List Arg → Result plain.Program SourceError → Found
+ran limits args (Ok core) = run_found core limits args
+ran limits args (Err stop) = Answered (stopped stop)
+
 -- What is reported of the command that was meant, over these contents, where no call of the outside fails and memory suffices. There is no
 -- report where the content of the source is not told.
 abbrev pub report : Option Meant → (List ℕ → Option (List ℕ)) → Option Report
 report None content = Some (report_of (Answered answer.NoCommand))
 report (Some (Build source target)) content = option_map (λ bytes. report_of (built (fate bytes))) (content source)
 report (Some (Goals source)) content = option_map (λ bytes. report_of (listed (goals_of bytes))) (content source)
+report (Some (Eval source limits args)) content = option_map (λ bytes. report_of (ran limits args (proved_of bytes))) (content source)

@@ -22,7 +22,11 @@ use Rattle.typed_core.specs.Goals.{Elaboration, elaborated}
 use Rattle.typed_core.specs.Limits.{Past, most}
 use Rattle.typed_core.specs.declared.goal.GoalAt.{GoalAt}
 use Rattle.goal_table.specs.Unproved.{Failure, first_unproved}
+use Rattle.run_options.specs.declared.options.Limits.{Limits}
+use Rattle.source_runs.specs.Runs.{FindsRun}
+use Rattle.xan_io.specs.declared.arg.Arg.{Arg}
 use Rattle.program_builder.specs.Counts.{size_of}
+use Rattle.command_reports.specs.Report.{Found}
 use Rattle.command_reports.specs.declared.answer.Counts.{Counts}
 use Rattle.command_reports.specs.declared.refusal.Refusal.{Refusal}
 use Rattle.command_reports.specs.declared.refusal.Refusal.TheVariants as refusal
@@ -80,6 +84,13 @@ pub record IsBuildable (bytes : List ℕ) (counts : Counts) : Type 0 where
   pub made : Elaboration
   pub has : IsProved bytes core made
   pub counted : counts ≡ counts_of core made
+
+-- its goals are proved, and this is found of the run of its core within limits on arguments
+pub record HasRun (bytes : List ℕ) (limits : Limits) (args : List Arg) (found : Found) : Type 0 where
+  pub core : plain.Program
+  pub made : Elaboration
+  pub has : IsProved bytes core made
+  pub finds : FindsRun core limits args found
 
 -- ---- why it comes no further
 

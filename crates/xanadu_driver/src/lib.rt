@@ -8,6 +8,7 @@
 
 mod build;
 mod counting;
+mod eval;
 mod goals;
 mod laws;
 mod top;

@@ -4,9 +4,9 @@ ghost use Rattle.std.specs.Prelude.{◌≡◌, ◌≤◌, length, IfOk, IfErr};
 ghost use Rattle.xanadu_parser.specs.Faults.{IsAnswer};
 ghost use Rattle.xanadu_tree.specs.PlainOf.{plain_core};
 ghost use Rattle.xanadu_tree.specs.PlainTreeOf.{plain_tree};
-ghost use Rattle.goal_table.specs.Answers.{AllAreProved};
+ghost use Rattle.goal_table.specs.Answers.{AllAreProved, AreShort};
 ghost use Rattle.xanadu_driver.specs.Correct.{Translates, IsTextOf};
-ghost use Rattle.xanadu_driver.specs.Source.{IsCore, IsElaborated, Stops, ComesEarly, FailsGoals, source_most};
+ghost use Rattle.xanadu_driver.specs.Source.{IsCore, IsElaborated, IsProved, Stops, ComesEarly, FailsGoals, source_most};
 
 use crate::counting::count;
 use command_reports::{Counts, SourceError, Workspace};
@@ -42,6 +42,16 @@ pub fn compile(alloc: Global, source: &[u8]) -> Result<Text, SourceError>
     print_program(alloc, &proved)
 }
 
+/// The source's core with lines for each of its goals.
+pub fn prove_source(alloc: Global, source: &[u8]) -> Result<Proved, SourceError>
+    requires { length source.now ≤ source_most }
+    ensures proved { IfOk result (λ proved. IsProved source.now (plain_core proved.base.core) proved.base.made) }
+    ensures refused { IfErr result (Stops source.now) }
+{
+    let base = elaborate_source(alloc, source)?;
+    prove(alloc, base)
+}
+
 /// The source's core with all that elaboration makes of it.
 pub fn elaborate_source(alloc: Global, source: &[u8]) -> Result<Elaborated, SourceError>
     requires { length source.now ≤ source_most }
@@ -69,6 +79,7 @@ fn find_core(alloc: Global, source: &[u8]) -> Result<Core, SourceError>
 /// The program with lines for each of its goals.
 fn prove(alloc: Global, base: Elaborated) -> Result<Proved, SourceError>
     ensures proved { IfOk result (λ proved. AllAreProved base proved) }
+    ensures short { IfOk result (λ proved. AreShort proved.lines) }
     ensures refused { IfErr result (FailsGoals base.made.goals) }
 {
     let mut work = Workspace::new(alloc)?;
@@ -77,6 +88,7 @@ fn prove(alloc: Global, base: Elaborated) -> Result<Proved, SourceError>
 
 /// The text of a program of which all goals are proved.
 fn print_program(alloc: Global, proved: &Proved) -> Result<Text, SourceError>
+    requires { AreShort proved.now.lines }
     ensures text { IfOk result (λ text. IsTextOf (plain_core proved.now.base.core) proved.now.base.made text.bytes.items text.counts) }
     ensures refused { IfErr result (λ stop. stop ≡ SourceError.Memory) }
 {
