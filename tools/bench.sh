@@ -1,7 +1,7 @@
 #!/usr/bin/env sh
 # Builds the benchmarks and prints how many proof lines a second are checked, beside a plain loop in C that does the same sums; how many megabytes
-# a second of two sources of a mebibyte are lexed and parsed; how long the goals of whole sources take, with bin/xanadu of tools/try.sh; and how many
-# goals a second are proved.
+# a second of two sources of a mebibyte are lexed and parsed; how long the goals of whole sources take, and a loop of ten million turns, with bin/xanadu
+# and bin/dtal of tools/try.sh; and how many goals a second are proved.
 set -e
 cd "$(dirname "$0")/.."
 mkdir -p bin
@@ -112,6 +112,17 @@ if [ -x bin/xanadu ]; then
     goals_of "a mebibyte of branches with 20 variables in scope, up to the limit of index variables" bin/branches.xan
     filled_with "fun g(x: int): int { return x; } fun main(): int { var v0 = 0;" "v0 = g(v0);" >bin/calls.xan
     goals_of "a mebibyte of calls, up to the limit of index variables" bin/calls.xan
+fi
+
+EVAL_TURNS=10000000
+
+# the same loop as `eval` runs it and as the machine runs its text
+if [ -x bin/xanadu ] && [ -x bin/dtal ]; then
+    echo "fun main(n: int): int { var i = 0; var s = 0; while (i < n) { s = s + i; i = i + 1; } return s; }" >bin/turns.xan
+    bin/xanadu build bin/turns.xan bin/turns.dtal >/dev/null
+    evaluated=$(took bin/xanadu eval bin/turns.xan int=$EVAL_TURNS)
+    run=$(took bin/dtal run bin/turns.dtal int=$EVAL_TURNS)
+    echo "a loop of $EVAL_TURNS turns: eval $((evaluated / 1000000)) ms, the run of its text $((run / 1000000)) ms"
 fi
 
 sh tools/bench_solver.sh
