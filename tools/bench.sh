@@ -1,13 +1,12 @@
 #!/usr/bin/env sh
-# Builds the benchmarks and prints how many proof lines a second are checked, beside a plain loop in C that does the same sums; how many megabytes
-# a second of two sources of a mebibyte are lexed and parsed; how long the goals of whole sources take, and a loop of ten million turns, with bin/xanadu
-# and bin/dtal of tools/try.sh; and how many goals a second are proved.
+# Builds bench_parts and prints how many proof lines a second are checked, beside a plain loop in C that does the same sums; how many megabytes a
+# second of two sources of a mebibyte are lexed and parsed; how many goals a second are proved; and, with bin/xanadu and bin/dtal of tools/try.sh, how
+# long the goals of whole sources take, a loop of ten million turns, and the steps of the machine.
 set -e
 cd "$(dirname "$0")/.."
 mkdir -p bin
-(cd crates/bench_lines && rt run -- combs 1000 1 >/dev/null)
-(cd crates/bench_sources && rt run -- trees data/sum.xan 1 >/dev/null)
-cp crates/bench_lines/out/bench_lines crates/bench_sources/out/bench_sources bin/
+(cd crates/bench_parts && rt run -- chain 8 3 >/dev/null)
+cp crates/bench_parts/out/bench_parts bin/
 cc -O2 -o bin/lines_in_c tools/bench_lines.c
 
 # nanoseconds that a command takes
@@ -27,7 +26,7 @@ lines_a_second() {
 }
 
 for kind in combs cuts; do
-    echo "$kind: $(lines_a_second bin/bench_lines $kind) lines a second checked, $(lines_a_second bin/lines_in_c $kind) by the loop in C"
+    echo "$kind: $(lines_a_second bin/bench_parts $kind) lines a second checked, $(lines_a_second bin/lines_in_c $kind) by the loop in C"
 done
 
 READINGS=10
@@ -61,7 +60,7 @@ long_statements() {
 
 # megabytes a second, in tenths, of a source that is read in the way of this kind
 tenths_of_megabytes() {
-    echo $(($(wc -c <"$2") * READINGS * 10000 / $(took bin/bench_sources "$1" "$2" "$READINGS")))
+    echo $(($(wc -c <"$2") * READINGS * 10000 / $(took bin/bench_parts "$1" "$2" "$READINGS")))
 }
 
 for source in functions_of_sums long_statements; do
@@ -127,14 +126,32 @@ fi
 
 sh tools/bench_solver.sh
 
-(cd crates/bench_machine && rt run -- 1000 >/dev/null)
-cp crates/bench_machine/out/bench_machine bin/
 TURNS=20000000
 STEPS_OF_A_TURN=5
-echo "machine: $((TURNS * STEPS_OF_A_TURN * 1000000000 / $(took bin/bench_machine $TURNS))) steps a second"
+
+# a loop of five instructions a turn, which sums the numbers below its argument
+if [ -x bin/dtal ]; then
+    cat >bin/loop.dtal <<END
+dtal 1
+fun main {1|} (int(+1v0+0)) {1|} int(+1v1+0)
+li r1 0
+li r2 0
+jmp 1 {v1=+0,v2=+0}
+label 1 {3|} [r0:int(+1v0+0) r1:int(+1v1+0) r2:int(+1v2+0)]
+br le r0 r1 2 {}
+add r2 r2 r1
+li r3 1
+add r1 r1 r3
+jmp 1 {v1=+1v1+1,v2=+1v1+1v2+0}
+label 2 {3|} [r2:int(+1v2+0)]
+ret r2
+end
+END
+    echo "machine: $((TURNS * STEPS_OF_A_TURN * 1000000000 / $(took bin/dtal run bin/loop.dtal int=$TURNS))) steps a second"
+fi
 
 # the same loop beside it, where wabt is there
-if command -v wasm-interp >/dev/null; then
+if command -v wasm-interp >/dev/null && [ -x bin/dtal ]; then
     WASM_TURNS=2000000
     cat >bin/loop.wat <<END
 (module (func (export "main") (result i64) (local \$i i64) (local \$s i64)
@@ -146,12 +163,12 @@ if command -v wasm-interp >/dev/null; then
   (local.get \$s)))
 END
     wat2wasm bin/loop.wat -o bin/loop.wasm
-    echo "wasm-interp: $((WASM_TURNS * 1000000000 / $(took wasm-interp bin/loop.wasm --run-all-exports))) turns a second, the machine $((TURNS * 1000000000 / $(took bin/bench_machine $TURNS)))"
+    echo "wasm-interp: $((WASM_TURNS * 1000000000 / $(took wasm-interp bin/loop.wasm --run-all-exports))) turns a second, the machine $((TURNS * 1000000000 / $(took bin/dtal run bin/loop.dtal int=$TURNS)))"
 fi
 
 # the machine takes no memory behind its loading: as many allocations for a short run as for a long one
-if command -v valgrind >/dev/null; then
+if command -v valgrind >/dev/null && [ -x bin/dtal ]; then
     for turns in 1000 100000; do
-        echo "$turns turns: $(valgrind bin/bench_machine $turns 2>&1 | grep -o '[0-9,]* allocs') in all"
+        echo "$turns turns: $(valgrind bin/dtal run bin/loop.dtal int=$turns 2>&1 | grep -o '[0-9,]* allocs') in all"
     done
 fi

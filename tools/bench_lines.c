@@ -1,4 +1,4 @@
-/* The lines of crates/bench_lines in a plain loop over rows of 65 words: each sum in 128 bits and tested against the bound, each division by a
+/* The lines of crates/bench_parts in a plain loop over rows of 65 words: each sum in 128 bits and tested against the bound, each division by a
    number that is known only when it runs, as a checker of lines has it. */
 #include <stdint.h>
 #include <stdio.h>

@@ -4,8 +4,8 @@
 set -e
 cd "$(dirname "$0")/.."
 mkdir -p bin
-(cd crates/bench_solver && rt run -- chain 8 3 >/dev/null)
-cp crates/bench_solver/out/bench_solver bin/
+(cd crates/bench_parts && rt run -- chain 8 3 >/dev/null)
+cp crates/bench_parts/out/bench_parts bin/
 
 # nanoseconds that a command takes
 nanoseconds() {
@@ -33,11 +33,11 @@ z3_reads() {
 
 for run in "8 20000 2000" "16 8000 1000" "32 2000 500" "64 500 200"; do
     set -- $run
-    line="chain of $1 variables: $(($2 * 1000000000 / $(nanoseconds bin/bench_solver chain "$1" "$2"))) goals a second"
+    line="chain of $1 variables: $(($2 * 1000000000 / $(nanoseconds bin/bench_parts chain "$1" "$2"))) goals a second"
     if command -v z3 >/dev/null; then
         chain_for_z3 "$1" "$3" >bin/chain.smt2
         line="$line, $(($3 * 1000000000 / $(nanoseconds z3_reads))) by z3"
     fi
     echo "$line"
 done
-echo "45 rows of each sign, up to 980100 pairs in one round: $(($(nanoseconds bin/bench_solver curve 45 1) / 1000000)) ms"
+echo "45 rows of each sign, up to 980100 pairs in one round: $(($(nanoseconds bin/bench_parts curve 45 1) / 1000000)) ms"

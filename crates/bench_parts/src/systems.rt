@@ -59,7 +59,7 @@ fn point(before: i64, by: i64) -> Option<Form> {
 }
 
 /// Adds a row that names only variables of the context.
-fn add(context: &mut Context, row: Form) -> Option<()> {
+pub fn add(context: &mut Context, row: Form) -> Option<()> {
     let vars = context.vars();
     if row.terms().iter().all(|term| term.var < vars) {
         context.add(row).ok()

@@ -1,5 +1,5 @@
 use Rattle.std.proofs.Common.{◌≡◌}
-use Rattle.bench_lines.proofs.check.times_accepted.Given as goal
+use Rattle.bench_parts.proofs.lines.times_accepted.Given as goal
 
 -- the pool is as it was made
 abbrev pub invariant-loop : goal.invariant-loop
