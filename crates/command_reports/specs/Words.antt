@@ -9,7 +9,7 @@ use Rattle.run_options.specs.declared.limits.TheConstants.{HEAP, DEPTH, UNITS, M
 use Rattle.run_options.specs.declared.options.Limits.{Limits}
 use Rattle.run_options.specs.Options.{Rules, Sorted, sorted, none_yet, IsWithin}
 use Rattle.run_options.specs.Requests.{Requested, requested}
-use Rattle.command_reports.specs.declared.limits.TheConstants.{MOST_DEPTH}
+use Rattle.command_reports.specs.declared.words.TheConstants.{MOST_DEPTH}
 use Rattle.command_reports.specs.declared.words.Command.{Command}
 use Rattle.command_reports.specs.declared.words.Command.TheVariants as command
 

@@ -5,8 +5,8 @@ ghost use Rattle.xan_lin.specs.Text.{number_text, term_text, terms_text, form_te
 ghost use Rattle.command_reports.specs.Answers as spec;
 ghost use Rattle.command_reports.specs.Answers.{numbered, limit_text, limit_word, place_text, verdict};
 
-use crate::limits::most;
 use arrayvec::ArrayString;
+use expression_elaborator::most;
 use itoa::Buffer;
 use linear_solver::Answer;
 use xan_lin::{Form, LimitKind, Term};

@@ -7,7 +7,6 @@
 
 mod answer;
 mod goal_lines;
-mod limits;
 mod lines;
 mod listing;
 mod refusal;
@@ -16,7 +15,6 @@ mod words;
 mod workspace;
 
 pub use crate::answer::{Answer, Counts};
-pub use crate::limits::{MOST_DEPTH, most};
 pub use crate::lines::say;
 pub use crate::listing::{Listing, list};
 pub use crate::refusal::{Refusal, SourceError};

@@ -6,12 +6,14 @@ ghost use Rattle.command_reports.specs.Words.{IsWithinLimits, view};
 ghost use Rattle.run_options.specs.Options.{none_yet, rules_of, sorted};
 ghost use Rattle.xan_io.specs.Words.{texts};
 
-use crate::limits::MOST_DEPTH;
 use run_options::limits::{DEPTH, HEAP, MOST_UNITS, UNITS};
 use run_options::{Limits, Options, Request, WordsError, read_request, sort_words};
 use source_values::MOST_WORDS;
 use std::alloc::Global;
 use xan_io::is_value;
+
+/// The most activations that a run may be told to have at once.
+pub const MOST_DEPTH: u64 = 65_536;
 
 /// A command, over the source of a name.
 #[derive(Drop)]

@@ -24,7 +24,7 @@ pub use crate::error::{Failure, Stop};
 pub use crate::forms::{
     Exact, forms_from, needed_type, push_variables, renamed, renamed_type, types_from,
 };
-pub use crate::limits::{within, within_length};
+pub use crate::limits::{most, within, within_length};
 pub use crate::operands::{operand, zero};
 pub use crate::places::places_of;
 pub use crate::state::{Site, State, place_of, type_of};

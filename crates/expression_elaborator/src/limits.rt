@@ -8,7 +8,7 @@ use crate::error::Stop;
 use xan_lin::{BOUND, LimitKind};
 
 /// How much of each there may be.
-fn most(kind: LimitKind) -> u64
+pub fn most(kind: LimitKind) -> u64
     ensures { result ≡ spec.most kind }
 {
     match kind {

@@ -9,7 +9,8 @@ ghost use Rattle.command_reports.specs.Answers.{Keeps};
 ghost use Rattle.xanadu_driver.specs.Source.{IsRefused, source_most};
 
 use crate::translate::compile;
-use command_reports::{Answer, Refusal, SourceError, most};
+use command_reports::{Answer, Refusal, SourceError};
+use expression_elaborator::most;
 use std::alloc::Global;
 use xan_io::{FileFault, FileRead, Files};
 use xan_lin::LimitKind;
