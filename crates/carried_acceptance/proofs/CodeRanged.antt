@@ -27,6 +27,8 @@ use Rattle.three_address.specs.declared.typed.Edge.{Edge}
 use Rattle.dtal_code.specs.Grammar.{IsEdge, IsTypeNumber, IsValue, IsWay}
 use Rattle.dtal_emit.specs.Acting.{type_of}
 use Rattle.emission_laws.specs.ApartHomes.{names_type}
+use Rattle.emission_acceptance.proofs.CodeReady.{number_named}
+use Rattle.emission_acceptance.proofs.RulesFew.{named_type}
 use Rattle.emission_laws.specs.EmittedRanges.{Each, goes_to_label, IsRangedInstr, AreRanged}
 use Rattle.carried_acceptance.specs.WrittenParts.{HasNumbers}
 use Rattle.carried_acceptance.proofs.TextedEdges.{IsTextedEdge, IsTextedLabel, IsProvedIn, IsCarriedIn}
@@ -122,27 +124,6 @@ same_leads low.Print number target listed o e = ap leads_to (same_Some Print o e
 
 -- ---- the number of a type
 
-abbrev named_type : Operation → Option ℕ
-named_type (New n) = Some n
-named_type (Tuple n) = Some n
-named_type (Untuple n count) = Some n
-named_type _ = None
-
-record IsTypeOf (number : ℤ) (o : Operation) : Type 0 where
-  n : ℕ
-  is : number ≡ pos n
-  names : named_type o ≡ Some n
-
-type_is : (number : ℤ) (make : ℕ → Operation) (o : Operation) → ((n : ℕ) → named_type (make n) ≡ Some n) → of_type number make ≡ Some o → IsTypeOf number o
-type_is (pos n) make o same e = record { n = n; is = refl; names = ap named_type (sym (same_Some (make n) o e)) ∙ same n }
-type_is (negsuc n) make o same e = absurd (none-some o e)
-
-number_is : (op : Op22) (number : ℤ) (target listed : ℕ) (o : Operation) → names_type op ≡ true → operation_of op number target listed ≡ Some o → IsTypeOf number o
-number_is low.New number target listed o t e = type_is number New o (λ n. refl) e
-number_is low.Tup number target listed o t e = type_is number Tuple o (λ n. refl) e
-number_is low.Untup number target listed o t e = type_is number (λ p. Untuple p (listed - 1)) o (λ n. refl) e
-number_is _ number target listed o t e = absurd (let bad : ⊥ = cc in bad)
-
 cell_there : (table : List Packed) (n : ℕ) (packed : Packed) → cell_at table n ≡ Ok packed → n < length table
 unfolding cell_at
 cell_there table n packed e =
@@ -175,8 +156,8 @@ type_ranged : (st : Setting) (state : StateType) (instr : LowInstr) (i : Instruc
 unfolding ruled_in ruled
 type_ranged st state instr i by few is rules names =
     let s = then_ok (named st i.operation) _ by rules in
-    let t = number_is instr.op instr.number instr.target (length instr.places) i.operation names (instruction_operation instr i is) in
-    let there = type_there st i.operation t.n s.value t.names s.first in
+    let t = number_named instr.op instr.number instr.target (length instr.places) i.operation names (instruction_operation instr i is) in
+    let there = type_there st i.operation t.n s.value t.named s.first in
     subst (λ z. type_of z ≤ 65535) (sym t.is) (type_number t.n (omega (arith, there, few)))
 
 -- ---- ways

@@ -1,7 +1,8 @@
 -- How many instructions emission writes for one: at most four.
-use Rattle.std.proofs.Common.{◌≡◌, ℕ, zero, suc, ◌+◌, ◌*◌, ◌≤◌, ◌==◌, ℤ, Bool, true, false, List, [], ◌∷◌, ◌++◌, length, map, take, drop, Option, Some, None, nat_lt, if◌then◌else◌, refl, ap, subst, arith, length-append}
+use Rattle.std.proofs.Common.{◌≡◌, ℕ, zero, suc, ◌+◌, ◌*◌, ◌≤◌, ◌==◌, ℤ, Bool, true, false, List, [], ◌∷◌, ◌++◌, length, take, drop, Option, Some, None, nat_lt, if◌then◌else◌, refl, subst, arith, length-append}
 use Rattle.std.proofs.lemmas.Bool.Decides.{nat_tests}
 use Rattle.std.proofs.lemmas.Option.{none-some, same_Some}
+use Rattle.std.proofs.lemmas.List.{length-map}
 use Rattle.three_address.specs.Splits.{Parts, fixed, where_so, is_among, is_natural, parts_by, parts_of}
 use Rattle.three_address.specs.declared.instruction.LowInstr.{LowInstr}
 use Rattle.three_address.specs.declared.instruction.Op22.{Op22}
@@ -60,10 +61,6 @@ taken (suc n) (x ∷ xs) = (let h = taken n xs in omega (arith, h))
 taken_few : (n : ℕ) (xs : List ℕ) → length (take n xs) ≤ length xs
 taken_few n xs = (let h = taken n xs in omega (arith, h))
 
-mapped_long : {A B : Type 0} (f : A → B) (xs : List A) → length (map f xs) ≡ length xs
-mapped_long f [] = refl
-mapped_long f (x ∷ xs) = ap suc (mapped_long f xs)
-
 abbrev many : Parts → ℕ
 many parts = length parts.0 + length parts.1
 
@@ -113,7 +110,7 @@ parts_few low.Print number places parts t e = upto parts 1 (omega arith) (fixed_
 -- ---- instructions
 
 homes_few : (homes places : List ℕ) → length (homes_of homes places) ≤ length places
-homes_few homes places = (let a = mapped_long (home_of homes) (take 8 places) in let b = taken_few 8 places in omega (arith, a, b))
+homes_few homes places = (let a = length-map (take 8 places) (home_of homes) in let b = taken_few 8 places in omega (arith, a, b))
 
 -- moves, the one that acts, and moves
 together : (front behind : List Instr) (reads writes : ℕ) (acts : Instr) → length front ≤ reads → length behind ≤ writes → writes + reads ≤ 3 → length (front ++ acts ∷ behind) ≤ 4

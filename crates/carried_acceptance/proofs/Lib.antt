@@ -1,7 +1,6 @@
 pub mod CarriedKept
 pub mod TextedStates
 pub mod TextedNotes
-pub mod TextedBlocks
 pub mod ProgramTexted
 pub mod TextedEdges
 pub mod LinesWritten

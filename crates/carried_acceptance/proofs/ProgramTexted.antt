@@ -28,8 +28,7 @@ use Rattle.carrier_laws.proofs.PlacesKept.{Grounds, Place}
 use Rattle.carrier_laws.proofs.StartsFound.{start_is, start_place}
 use Rattle.carrier_laws.proofs.WholeTyped.{made_is}
 use Rattle.lowered_acceptance.proofs.TypesDeclared.{IsSignatureOf, signatures_made}
-use Rattle.carried_acceptance.proofs.TextedBlocks.{block_texted}
-use Rattle.carried_acceptance.proofs.TextedNotes.{AreTexted, TextsOf}
+use Rattle.carried_acceptance.proofs.TextedNotes.{AreTexted, TextsOf, block_texted}
 
 -- ---- lists
 

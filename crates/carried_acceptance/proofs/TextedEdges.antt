@@ -1,19 +1,18 @@
 -- What is carried from notes that have texts has texts: the values and the lines of each edge, and the state of each label.
-use Rattle.std.proofs.Common.{◌≡◌, ◌∙◌, ℕ, suc, ◌<◌, ◌≤◌, Bool as Truth, true, false, List, [], ◌∷◌, ◌++◌, length, slice_get, inl, inr, Option, Some, None, Result, Ok, Err, refl, sym, subst, arith, append_assoc, append-nil}
+use Rattle.std.proofs.Common.{◌≡◌, ℕ, ◌<◌, ◌≤◌, Bool as Truth, true, false, List, [], ◌∷◌, ◌++◌, length, slice_get, inl, inr, Option, Some, None, Result, Ok, Err, refl, sym, subst}
 use Rattle.std.specs.List.{All, AllByRecursion}
 use Rattle.std.proofs.lemmas.List.Elements.{All-head, All-tail}
 use Rattle.std.proofs.lemmas.Option.{slice_get_within}
 use Rattle.xan_lin.specs.Linear.{Linear}
 use Rattle.xan_lin.specs.Subst.{subst_of}
 use Rattle.xan_lin.specs.declared.term.TooLarge.{TooLarge}
-use Rattle.xan_seq.specs.Rising.{KeysRise}
 use Rattle.proof_lines.specs.declared.line.Line.{Line}
 use Rattle.state_types.specs.PlaceTypes.{PlacesRise}
 use Rattle.state_types.specs.Types.{TypeBelow}
 use Rattle.state_types.specs.declared.closed.Packed.{Packed}
 use Rattle.state_types.specs.declared.state.StateType.{StateType}
 use Rattle.state_types.specs.declared.types.Ty.{Ty}
-use Rattle.three_address.specs.LiveLabels.{live_mark, column_mark}
+use Rattle.three_address.specs.LiveLabels.{column_mark}
 use Rattle.three_address.specs.declared.typed.Edge.{Edge}
 use Rattle.three_address.specs.declared.typed.ProvedRow.{ProvedRow}
 use Rattle.typed_core.specs.Strays.{values_rise}
@@ -26,9 +25,9 @@ use Rattle.xanadu_tree.specs.Plain as core
 use Rattle.type_carrier.specs.Carried.{Columns, function, body_begins}
 use Rattle.type_carrier.specs.CarriedTests.{Sources}
 use Rattle.type_carrier.specs.ProvedRows.{Proofs, Way, row_with, row_at, rows_onto, is_row, first_or, row_among, rows_among, plain, demand_edge, way_in}
-use Rattle.type_carrier.specs.Ways.{kept_if, live_places, label_state, first_own, place_rows, present_at, places_by, row_by, rows_by, all_by, rising_edge, way_edge}
+use Rattle.type_carrier.specs.Ways.{label_state, first_own, place_rows, present_at, places_by, row_by, rows_by, all_by, rising_edge, way_edge}
 use Rattle.dtal_code.specs.Grammar.{AreLinesIn}
-use Rattle.carrier_laws.proofs.LivePlaces.{live_places_are, live_all}
+use Rattle.carrier_laws.proofs.LivePlaces.{live_places_are, live_all, live_rise}
 use Rattle.carrier_laws.proofs.RowsStand.{AreSound}
 use Rattle.carrier_laws.proofs.RulesKept.{IsGood}
 use Rattle.carrier_laws.proofs.WayRows.{Among}
@@ -140,38 +139,7 @@ among_all P [] x all a = absurd a
 among_all P (y ∷ ys) x all (inl h) = subst P h (All-head P y ys all)
 among_all P (y ∷ ys) x all (inr h) = among_all P ys x (All-tail P y ys all) h
 
--- entries that rise, of which some are left out
-from_less : (low more : ℕ) (entries : List (ℕ × Ty)) → low ≤ more → KeysRise more entries → KeysRise low entries
-from_less low more [] le rise = tt
-from_less low more (e ∷ entries) le rise = ((let h = rise.0 in omega (arith, le, h)), rise.1)
-
 module _ (columns : Columns) (number : ℕ) where
-  abbrev first_if : Truth → ℕ × Ty → List (ℕ × Ty) → List (ℕ × Ty)
-  first_if true e others = e ∷ others
-  first_if false e others = others
-
-  unfoldable kept_of : List (ℕ × Ty) → List (ℕ × Ty)
-  kept_of [] = []
-  kept_of (e ∷ entries) = first_if (live_mark columns number e.0) e (kept_of entries)
-
-  behind : (b : Truth) (e : ℕ × Ty) (made others : List (ℕ × Ty)) → kept_if b e made ++ others ≡ made ++ first_if b e others
-  behind true e made others = append_assoc made (e ∷ []) others
-  behind false e made others = refl
-
-  kept_on : (entries made : List (ℕ × Ty)) → live_places columns number entries made ≡ made ++ kept_of entries
-  unfolding live_places kept_of
-  kept_on [] made = sym (append-nil made)
-  kept_on (e ∷ entries) made = kept_on entries (kept_if (live_mark columns number e.0) e made) ∙ behind (live_mark columns number e.0) e made (kept_of entries)
-
-  first_rise : (b : Truth) (low : ℕ) (e : ℕ × Ty) (others : List (ℕ × Ty)) → low ≤ e.0 → KeysRise (suc e.0) others → KeysRise low (first_if b e others)
-  first_rise true low e others le rise = (le, rise)
-  first_rise false low e others le rise = from_less low (suc e.0) others (omega (arith, le)) rise
-
-  live_rise : (low : ℕ) (entries : List (ℕ × Ty)) → KeysRise low entries → KeysRise low (kept_of entries)
-  unfolding kept_of
-  live_rise low [] rise = tt
-  live_rise low (e ∷ entries) rise = first_rise (live_mark columns number e.0) low e (kept_of entries) rise.0 (live_rise (suc e.0) entries rise.1)
-
   marked_small : (place : ℕ) (column : Option (List Truth)) → slice_get columns place ≡ column → column_mark column number ≡ true → place < length columns
   marked_small place None e live = absurd (let bad : ⊥ = cc in bad)
   marked_small place (Some column) e live = slice_get_within columns place column e
@@ -187,7 +155,7 @@ module _ (columns : Columns) (number : ℕ) where
         few = is.few;
         types = subst (AllByRecursion P) same (live_all columns number P noted.places
             (λ e a live. (among (λ (x : ℕ × Ty). IsGood table x.1) noted.places e is.types a, among_all (λ (x : ℕ × Ty). TypeBelow noted.ctx.vars x.1) noted.places e is.below a)));
-        rise = subst (λ es. PlacesRise 0 es) (sym (kept_on noted.places [])) (live_rise 0 noted.places is.rise);
+        rise = subst (λ es. PlacesRise 0 es) same (live_rise columns number 0 noted.places is.rise);
         small = subst (AllByRecursion S) same (live_all columns number S noted.places (λ e a live. marked_small e.0 (slice_get columns e.0) refl live));
       }
 

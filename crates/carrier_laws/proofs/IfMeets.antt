@@ -34,7 +34,7 @@ use Rattle.carrier_laws.proofs.LabelsMet.{next_label, label_here}
 use Rattle.carrier_laws.proofs.LoopsTyped.{way_left, past_left, own_is}
 use Rattle.carrier_laws.proofs.MeetingsKnown.{meeting_known}
 use Rattle.carrier_laws.proofs.NamesKept.{Keys}
-use Rattle.carrier_laws.proofs.NotesNoted.{joined_noted}
+use Rattle.carrier_laws.proofs.JoinsNoted.{joined_noted}
 use Rattle.carrier_laws.proofs.PlacesKept.{Grounds, Facts, Place, facts_of}
 use Rattle.carrier_laws.proofs.TestsTyped.{label_made}
 use Rattle.carrier_laws.proofs.WaysTyped.{comes_from, way_goes}
@@ -59,7 +59,7 @@ module _ (w : Walk) (isw : IsWalk w) (columns : List (List Truth)) (has : HasLab
         (omega (arith, one_vars, two_vars)) j is_clause (joint, start) joins
 
     start_notes : start.notes ≡ two.notes ++ note.State (point start) ∷ []
-    start_notes = answered (joined w.site clause changed (point st) two) (joint, start) (joined_noted w.site clause changed (point st) two) joins
+    start_notes = (answered (joined w.site clause changed (point st) two) (joint, start) (joined_noted w.site clause changed (point st) two) joins).notes
 
     start_knows : Knows set.kinds before.visible start.types
     start_knows =

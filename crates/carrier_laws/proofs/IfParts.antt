@@ -53,9 +53,8 @@ use Rattle.carrier_laws.proofs.VisibleEnds.{visible_same, visible_rise}
 use Rattle.carrier_laws.proofs.FragmentsTyped.{sources_of, HasLabels, Coming, LabelAt, AllAhead, Begins, Typed}
 use Rattle.carrier_laws.proofs.LabelsMet.{Formed, next_label, plain_jump, label_here}
 use Rattle.carrier_laws.proofs.LabelsTaken.{Left, TakesAll, all_on, test_taken}
-use Rattle.carrier_laws.proofs.NotesNoted.{SideFacts, sides_facts}
 use Rattle.carrier_laws.proofs.LeavesTyped.{rows_on}
-use Rattle.carrier_laws.proofs.PlacesKept.{Grounds, Facts, Place, facts_of, true_place, block_left, block_facts, other_place}
+use Rattle.carrier_laws.proofs.PlacesKept.{Grounds, Facts, Place, facts_of, true_place, block_left, block_facts, other_place, SideFacts, sides_facts}
 use Rattle.carrier_laws.proofs.StatementsTaken.{TakesFront, with_front, branches_taken, block_taken}
 use Rattle.carrier_laws.proofs.TestsTyped.{KeepsFacts, test_typed, left_behind, coming_behind, label_made}
 use Rattle.carrier_laws.proofs.WaysTyped.{facts_formed}

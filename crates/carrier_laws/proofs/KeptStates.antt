@@ -1,6 +1,6 @@
 -- What elaboration keeps of every state: its rows are forms and state themselves, its types are good, places rise, and variables are few.
 -- Expressions and tests keep it.
-use Rattle.std.proofs.Common.{◌≡◌, ℕ, ◌+◌, ◌≤◌, nat_lt, cond, List, [], ◌∷◌, ◌++◌, Bool as Truth, true, false, Option, Some, None, Result, Ok, Err, refl, sym, subst, arith}
+use Rattle.std.proofs.Common.{◌≡◌, ℕ, ◌+◌, ◌≤◌, nat_lt, cond, List, [], ◌∷◌, Bool as Truth, true, false, Option, Some, None, Result, Ok, Err, refl, sym, subst, arith}
 use Rattle.std.specs.List.{AllByRecursion}
 use Rattle.index_sorts.specs.Context.{IndexContext, with_variables}
 use Rattle.index_sorts.specs.declared.error.ContextError.{ContextError}
@@ -13,30 +13,26 @@ use Rattle.state_types.specs.Answers.{◌>>=◌}
 use Rattle.state_types.specs.PlaceTypes.{type_at, PlacesRise}
 use Rattle.state_types.specs.declared.closed.Packed.{Packed}
 use Rattle.state_types.specs.declared.types.Ty.{Ty}
-use Rattle.state_types.specs.declared.types.Ty.TheVariants as ty
 use Rattle.operation_rules.specs.Applied.{widened, all_assuming, all_given}
 use Rattle.operation_rules.specs.Faults.{filled, needed}
 use Rattle.operation_rules.specs.Rules.{rule}
 use Rattle.operation_rules.specs.Sides.{side}
 use Rattle.operation_rules.specs.declared.operation.Operation.{Operation}
-use Rattle.operation_rules.specs.declared.operation.Operation.TheVariants as operation
 use Rattle.operation_rules.specs.declared.rule.Rule.{Rule}
 use Rattle.std.specs.List.{list_all}
-use Rattle.xanadu_tree.specs.declared.expr.Rel.{Rel}
-use Rattle.xanadu_tree.specs.declared.expr.Rel.TheVariants as rel
 use Rattle.xanadu_tree.specs.Plain as core
-use Rattle.typed_core.specs.Constructs.{setting_of, followed, asking, types_by, first_type, type_by, state_by}
+use Rattle.typed_core.specs.Constructs.{setting_of, followed, asking, types_by, state_by}
 use Rattle.typed_core.specs.Limits.{by_rule, held}
-use Rattle.typed_core.specs.Operands.{operand, operands, chained}
-use Rattle.typed_core.specs.Operators.{operation_of, demands_at, comparison_of, in_order}
-use Rattle.typed_core.specs.States.{Site, State, demanding, there, noting_state}
+use Rattle.typed_core.specs.Operands.{operand}
+use Rattle.typed_core.specs.States.{Site, State, demanding, noting_state}
 use Rattle.typed_core.specs.Strays.{type_below}
-use Rattle.typed_core.specs.Tests.{Sides, branched, truth_leaf, leaf, on_side, tested, all_true, all_false}
+use Rattle.typed_core.specs.Tests.{Sides, branched, on_side, tested, all_true, all_false}
 use Rattle.typed_core.proofs.Continued.{Goes}
 use Rattle.typed_core.proofs.GrownContexts.{filled_goes, by_rule_goes}
 use Rattle.typed_core.proofs.KnownTypes.{entry_at}
 use Rattle.typed_core.proofs.LimitedAnswers.{then_answers, any_answer}
 use Rattle.typed_core.proofs.NamedStates.{known_answer}
+use Rattle.carrier_laws.proofs.OperandsWalked.{Keeps, state_walked, operand_walked, leaf_walked}
 use Rattle.carrier_laws.proofs.RowsStand.{AreSound, assumed_stand}
 use Rattle.carrier_laws.proofs.RulesKept.{IsGood, IsGoodIfAny, AreGood, MakesGood, rule_good, side_good}
 
@@ -91,10 +87,6 @@ followed_good table r ctx makes sound =
 
 -- ---- constructs
 
-all_push : {A : Type 0} (P : A → Type 0) (xs : List A) (y : A) → AllByRecursion P xs → P y → AllByRecursion P (xs ++ y ∷ [])
-all_push P [] y all p = (p, tt)
-all_push P (x ∷ xs) y all p = (all.0, all_push P xs y all.1 p)
-
 module _ (site : Site) (are : AreGood site.table site.sigs) where
   abbrev Good : Ty → Type 0
   Good t = IsGood site.table t
@@ -123,76 +115,17 @@ module _ (site : Site) (are : AreGood site.table site.sigs) where
       (by_rule_goes (followed r st.ctx) (followed_good site.table r st.ctx (rule_good (setting_of site) are op types st.ctx.vars r is good) k.rows))
       (λ p g. record { is = (asked_kept at r.demands p.1 st k g.rows g.few, g.types) })))
 
-  first_kept : (types : List Ty) → AllByRecursion Good types → Goes Good (first_type types)
-  first_kept [] all = record { is = tt }
-  first_kept (t ∷ ts) all = record { is = all.0 }
+  place_good : (x : ℕ) (st : State) (t : Ty) → Well st → type_at x st.types ≡ Some t → Good t
+  place_good x st t k e = entry_at (λ (p : ℕ × Ty). Good p.1) st.types x t k.types e
 
-  pub type_kept : (at : Option ℕ) (op : Operation) (types : List Ty) (st : State) → Well st → AllByRecursion Good types → Goes WellTyped (type_by site at op types st)
-  unfolding type_by
-  type_kept at op types st k good =
-      then_answers (types_by site at op types st) _ (types_kept at op types st k good)
-      (λ r h. then_answers (first_type r.0) _ (first_kept r.0 h.1) (λ t g. record { is = (h.0, g) }))
+  keeps : Keeps site Good Well
+  keeps = record { zero = (zero_is_form, tt); place = place_good; rule = types_kept }
 
   pub state_kept : (at : Option ℕ) (op : Operation) (types : List Ty) (st : State) → Well st → AllByRecursion Good types → Goes Well (state_by site at op types st)
-  unfolding state_by
-  state_kept at op types st k good = then_answers (types_by site at op types st) _ (types_kept at op types st k good) (λ r h. record { is = h.0 })
+  state_kept at op types st k good = state_walked site Good Well keeps at op types st k good
 
-  -- ---- expressions
-
-  ordered : (r : Rel) (t u : Ty) → Good t → Good u → AllByRecursion Good (in_order r t u)
-  ordered rel.Lt t u a b = (a, (b, tt))
-  ordered rel.Le t u a b = (a, (b, tt))
-  ordered rel.Gt t u a b = (b, (a, tt))
-  ordered rel.Ge t u a b = (b, (a, tt))
-  ordered rel.Eq t u a b = (a, (b, tt))
-  ordered rel.Ne t u a b = (a, (b, tt))
-
-  there_good : (x : ℕ) (st : State) → Well st → (o : Option Ty) → type_at x st.types ≡ o → Goes Good (there o)
-  there_good x st k (Some t) e = record { is = entry_at (λ (p : ℕ × Ty). Good p.1) st.types x t k.types e }
-  there_good x st k None e = record { is = tt }
-
-  mutual
-    unfolding operand
-
-    pub operand_kept : (e : core.Expr) (st : State) → Well st → Goes WellTyped (operand site e st)
-    operand_kept (core.Int n) st k = type_kept None (operation.Literal n) [] st k tt
-    operand_kept (core.Bool b) st k = type_kept None (operation.Truth b) [] st k tt
-    operand_kept (core.Var x) st k = then_answers (there (type_at x st.types)) _ (there_good x st k (type_at x st.types) refl) (λ t g. record { is = (k, g) })
-    operand_kept (core.Neg e) st k =
-        then_answers (operand site e st) _ (operand_kept e st k) (λ r h. type_kept None operation.Sub (ty.Int zero_form ∷ r.0 ∷ []) r.1 h.0 ((zero_is_form, tt), (h.1, tt)))
-    operand_kept (core.Chain first rest) st k =
-        then_answers (operand site first st) _ (operand_kept first st k) (λ r h. chained_kept rest r.0 r.1 h.0 h.1)
-    operand_kept (core.Compare r left right) st k =
-        then_answers (operand site left st) _ (operand_kept left st k)
-        (λ p h. then_answers (operand site right p.1) _ (operand_kept right p.1 h.0)
-        (λ q g. type_kept None (operation.Compare (comparison_of r)) (in_order r p.0 q.0) q.1 g.0 (ordered r p.0 q.0 h.1 g.1)))
-    operand_kept (core.Index array index at) st k =
-        then_answers (operand site array st) _ (operand_kept array st k)
-        (λ p h. then_answers (operand site index p.1) _ (operand_kept index p.1 h.0)
-        (λ q g. type_kept (Some at) operation.Load (p.0 ∷ q.0 ∷ []) q.1 g.0 (h.1, (g.1, tt))))
-    operand_kept (core.Len array) st k =
-        then_answers (operand site array st) _ (operand_kept array st k) (λ r h. type_kept None operation.Length (r.0 ∷ []) r.1 h.0 (h.1, tt))
-    operand_kept (core.Call fun args at) st k =
-        then_answers (operands site args [] st) _ (operands_kept args [] st k tt) (λ r h. type_kept (Some at) (operation.Call fun) r.0 r.1 h.0 h.1)
-    operand_kept (core.Make number args at) st k =
-        then_answers (operands site args [] st) _ (operands_kept args [] st k tt) (λ r h. type_kept (Some at) (operation.Tuple number) r.0 r.1 h.0 h.1)
-    operand_kept (core.New element len fill at) st k =
-        then_answers (operand site len st) _ (operand_kept len st k)
-        (λ p h. then_answers (operand site fill p.1) _ (operand_kept fill p.1 h.0)
-        (λ q g. type_kept (Some at) (operation.New element) (p.0 ∷ q.0 ∷ []) q.1 g.0 (h.1, (g.1, tt))))
-
-    operands_kept : (es : core.Exprs) (types : List Ty) (st : State) → Well st → AllByRecursion Good types → Goes AllWellTyped (operands site es types st)
-    operands_kept core.NoExpr types st k all = record { is = (k, all) }
-    operands_kept (core.AnExpr e es) types st k all =
-        then_answers (operand site e st) _ (operand_kept e st k) (λ r h. operands_kept es (types ++ r.0 ∷ []) r.1 h.0 (all_push Good types r.0 all h.1))
-
-    chained_kept : (links : core.Links) (t : Ty) (st : State) → Well st → Good t → Goes WellTyped (chained site links t st)
-    chained_kept core.NoLink t st k good = record { is = (k, good) }
-    chained_kept (core.ALink o e at others) t st k good =
-        then_answers (operand site e st) _ (operand_kept e st k)
-        (λ r h. then_answers (type_by site (demands_at o at) (operation_of o) (t ∷ r.0 ∷ []) r.1) _
-        (type_kept (demands_at o at) (operation_of o) (t ∷ r.0 ∷ []) r.1 h.0 (good, (h.1, tt)))
-        (λ s g. chained_kept others s.0 s.1 g.0 g.1))
+  pub operand_kept : (e : core.Expr) (st : State) → Well st → Goes WellTyped (operand site e st)
+  operand_kept e st k = operand_walked site Good Well keeps e st k
 
   -- ---- tests
 
@@ -213,18 +146,6 @@ module _ (site : Site) (are : AreGood site.table site.sigs) where
       (assumed_stand (side false op types) more.ctx (side_good (setting_of site) are false op types good) h.rows)))
       (λ two b. record { is = record { on_true = a.sound; on_false = b.sound; after = h } })))
 
-  truth_kept : (e : core.Expr) (st : State) → Well st → Goes WellSides (truth_leaf site e st)
-  unfolding truth_leaf
-  truth_kept e st k = then_answers (operand site e st) _ (operand_kept e st k) (λ r h. branched_kept (operation.BranchTruth true) (r.0 ∷ []) r.1 h.0 (h.1, tt))
-
-  leaf_kept : (e : core.Expr) (st : State) → Well st → Goes WellSides (leaf site e st)
-  unfolding leaf
-  leaf_kept (core.Compare r left right) st k =
-      then_answers (operand site left st) _ (operand_kept left st k)
-      (λ p h. then_answers (operand site right p.1) _ (operand_kept right p.1 h.0)
-      (λ q g. branched_kept (operation.Branch (comparison_of r)) (in_order r p.0 q.0) q.1 g.0 (ordered r p.0 q.0 h.1 g.1)))
-  leaf_kept e st k = truth_kept e st k
-
   pub side_kept : (rows : List Linear) (st : State) → AreSound rows → Well st → Well (on_side rows st)
   side_kept rows st sound k = record { rows = sound; types = k.types; rise = k.rise; few = k.few }
 
@@ -236,7 +157,7 @@ module _ (site : Site) (are : AreGood site.table site.sigs) where
     unfolding tested
 
     pub tested_kept : (test : core.Test) (st : State) → Well st → Goes WellSides (tested site test st)
-    tested_kept (core.Leaf e) st k = leaf_kept e st k
+    tested_kept (core.Leaf e) st k = leaf_walked site Good Well keeps WellSides branched_kept e st k
     tested_kept (core.All parts) st k =
         let begin : Sides = record { on_true = st.ctx.rows; on_false = st.ctx.rows; after = st } in
         then_answers (all_true site parts begin) _ (all_true_kept parts begin (record { on_true = k.rows; on_false = k.rows; after = k }))

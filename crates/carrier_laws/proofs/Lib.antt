@@ -24,6 +24,7 @@ pub mod JoinsMet
 pub mod JoinsReach
 pub mod RulesKept
 pub mod RowsStand
+pub mod OperandsWalked
 pub mod KeptStates
 pub mod KeptJoins
 pub mod NamesKept
@@ -42,6 +43,8 @@ pub mod JumpsTyped
 pub mod FragmentsJoined
 pub mod WaysTyped
 pub mod NotedStates
+pub mod JoinsNoted
+pub mod NotesWalked
 pub mod NotesNoted
 pub mod BranchesTyped
 pub mod LeavesTyped

@@ -9,6 +9,10 @@ use Rattle.three_address.specs.LiveLabels.{live_mark}
 use Rattle.type_carrier.specs.Ways.{kept_if, live_places}
 use Rattle.carrier_laws.proofs.WayRows.{Among}
 
+from_less : (low more : ℕ) (entries : List (ℕ × Ty)) → low ≤ more → KeysRise more entries → KeysRise low entries
+from_less low more [] le rise = tt
+from_less low more (entry ∷ entries) le rise = ((let h = rise.0 in omega (arith, le, h)), rise.1)
+
 module _ (columns : List (List Truth)) (label : ℕ) where
   abbrev first_if : Truth → ℕ × Ty → List (ℕ × Ty) → List (ℕ × Ty)
   first_if true entry others = entry ∷ others
@@ -29,6 +33,16 @@ module _ (columns : List (List Truth)) (label : ℕ) where
 
   pub live_places_are : (entries : List (ℕ × Ty)) → live_places columns label entries [] ≡ live_of entries
   live_places_are entries = live_on entries []
+
+  -- they rise where all do
+  first_rise : (b : Truth) (low : ℕ) (entry : ℕ × Ty) (others : List (ℕ × Ty)) → low ≤ entry.0 → KeysRise (suc entry.0) others → KeysRise low (first_if b entry others)
+  first_rise true low entry others le rise = (le, rise)
+  first_rise false low entry others le rise = from_less low (suc entry.0) others (omega (arith, le)) rise
+
+  pub live_rise : (low : ℕ) (entries : List (ℕ × Ty)) → KeysRise low entries → KeysRise low (live_of entries)
+  unfolding live_of
+  live_rise low [] rise = tt
+  live_rise low (entry ∷ entries) rise = first_rise (live_mark columns label entry.0) low entry (live_of entries) rise.0 (live_rise (suc entry.0) entries rise.1)
 
   -- what is live and holds of an entry
   pub live_all : (P : ℕ × Ty → Type 0) (entries : List (ℕ × Ty)) → ((entry : ℕ × Ty) → Among entries entry → live_mark columns label entry.0 ≡ true → P entry)

@@ -58,8 +58,8 @@ use Rattle.carrier_laws.proofs.LabelsMet.{next_label, label_here}
 use Rattle.carrier_laws.proofs.LabelsTaken.{Left, test_taken}
 use Rattle.carrier_laws.proofs.LeavesTyped.{rows_on}
 use Rattle.carrier_laws.proofs.MeetingsKnown.{meeting_known}
-use Rattle.carrier_laws.proofs.NotesNoted.{joined_noted, SideFacts, sides_facts}
-use Rattle.carrier_laws.proofs.PlacesKept.{Grounds, Facts, Place, facts_of, true_place, begun_place, block_facts, block_left, statement_left}
+use Rattle.carrier_laws.proofs.JoinsNoted.{joined_noted}
+use Rattle.carrier_laws.proofs.PlacesKept.{Grounds, Facts, Place, facts_of, true_place, begun_place, block_facts, block_left, statement_left, SideFacts, sides_facts}
 use Rattle.carrier_laws.proofs.StatementsTaken.{block_taken}
 use Rattle.carrier_laws.proofs.TestsTyped.{KeepsFacts, left_behind, coming_behind, jump_passes, label_behind, label_made, test_typed}
 use Rattle.carrier_laws.proofs.WaysEntered.{IsWay, way_is}
@@ -194,7 +194,7 @@ module _ (w : Walk) (isw : IsWalk w) (columns : List (List Truth)) (has : HasLab
   later_from_begun = later_on looping.begun looping.sides.after more later_sides later_from_sides
 
   start_notes : looping.start.notes ≡ st.notes ++ note.State (point looping.start) ∷ []
-  start_notes = answered (joined w.site clause (changes_any body) (point st) st) joint (joined_noted w.site clause (changes_any body) (point st) st) looping.joins
+  start_notes = (answered (joined w.site clause (changes_any body) (point st) st) joint (joined_noted w.site clause (changes_any body) (point st) st) looping.joins).notes
 
   more_notes : more.notes ≡ looping.back.notes ++ note.State (point more) ∷ []
   unfolding noting_state

@@ -1,5 +1,5 @@
 -- All that is known at a place of an elaborated body of a shaped core, and at the places within its branches and loops.
-use Rattle.std.proofs.Common.{◌≡◌, ℕ, Bool as Truth, true, Option, Ok, sym, subst, arith}
+use Rattle.std.proofs.Common.{◌≡◌, ℕ, ◌≤◌, Bool as Truth, true, Option, Result, Ok, Err, sym, subst, arith}
 use Rattle.std.specs.List.{All}
 use Rattle.state_types.specs.Tables.{IsClosed}
 use Rattle.state_types.specs.declared.types.Ty.{Ty}
@@ -12,19 +12,20 @@ use Rattle.typed_core.specs.Operands.{operand}
 use Rattle.typed_core.specs.States.{Site, State, point, noting_state}
 use Rattle.typed_core.specs.Statements.{statement, block, other_branch}
 use Rattle.typed_core.specs.Tests.{Sides, tested, on_side}
-use Rattle.typed_core.proofs.Continued.{no_more, more_again}
+use Rattle.typed_core.proofs.Continued.{Goes, no_more, more_again}
 use Rattle.typed_core.proofs.FitOperands.{Suits}
 use Rattle.typed_core.proofs.GrownContexts.{RowsBelow, rows_more}
 use Rattle.typed_core.proofs.GrownJoins.{joined_goes}
 use Rattle.typed_core.proofs.GrownOperands.{operand_goes}
 use Rattle.typed_core.proofs.GrownStatements.{statement_goes, block_goes}
 use Rattle.typed_core.proofs.GrownTests.{tested_goes}
-use Rattle.typed_core.proofs.NamedOperands.{operand_stays}
-use Rattle.typed_core.proofs.NamedStates.{Typed, typed_on, answered}
+use Rattle.typed_core.proofs.LimitedAnswers.{Answers, weaker}
+use Rattle.typed_core.proofs.NamedOperands.{operand_stays, tested_stays}
+use Rattle.typed_core.proofs.NamedStates.{Typed, typed_on, answered, both_answers}
 use Rattle.typed_core.proofs.NamedStatements.{typed_of}
 use Rattle.source_safety.proofs.PlacesKnown.{IsAt, statement_at, block_at, side_at, other_at, begun_at}
 use Rattle.carrier_laws.proofs.KeptJoins.{joined_kept, entered_kept}
-use Rattle.carrier_laws.proofs.KeptStates.{Kept, operand_kept, tested_kept}
+use Rattle.carrier_laws.proofs.KeptStates.{Kept, operand_kept, tested_kept, side_kept}
 use Rattle.carrier_laws.proofs.KeptStatements.{Known, Leaves, Ground, clause_exists, join_leaves, side_known, other_known, statement_leaves, block_leaves}
 use Rattle.carrier_laws.proofs.NamesKept.{Keys, InScope}
 
@@ -46,6 +47,10 @@ pub record Place (set : Setting) (site : Site) (p : Point) (st : State) : Type 0
   pub named : RowsBelow st.ctx.vars st.ctx.rows
   pub at : IsAt set site.own.vars p st
 
+goes_of : {A E : Type 0} {Q : E → Type 0} {P : A → Type 0} (m : Result A E) → Answers Q P m → Goes P m
+goes_of (Ok x) h = record { is = h.is }
+goes_of (Err why) h = record { is = tt }
+
 module _ (set : Setting) (site : Site) (g : Grounds set site) where
   pub facts_of : (p : Point) (st : State) → Place set site p st → Facts site st
   facts_of p st here = record { kept = here.known.kept; named = here.named; typed = typed_of site.own.vars p.indices 0 st here.at.behind }
@@ -60,6 +65,33 @@ module _ (set : Setting) (site : Site) (g : Grounds set site) where
         named = (answered (operand site e st) r (operand_goes site e st) made).named g.closed f.named;
         typed = typed_on site.own.vars st more (answered (operand site e st) r (operand_stays site g.closed e st f.typed) made).0 f.typed;
       }
+
+  -- what is known on both sides of a test
+  pub record SideFacts (st : State) (sides : Sides) : Type 0 where
+    pub on_true : Facts site (on_side sides.on_true sides.after)
+    pub on_false : Facts site (on_side sides.on_false sides.after)
+    pub vars : st.ctx.vars ≤ sides.after.ctx.vars
+
+  pub sides_facts : (t : core.Test) (st : State) → Facts site st → Goes (SideFacts st) (tested site t st)
+  sides_facts t st f =
+      weaker (tested site t st)
+      (λ sides h. (let k = h.0 in
+      let goes = h.1.0 in
+      let typed = typed_on site.own.vars st sides.after h.1.1 f.typed in
+      record {
+        on_true = record {
+          kept = side_kept site g.ground.are sides.on_true sides.after k.on_true k.after;
+          named = goes.on_true g.closed f.named;
+          typed = record { own_vars = typed.own_vars; types = typed.types };
+        };
+        on_false = record {
+          kept = side_kept site g.ground.are sides.on_false sides.after k.on_false k.after;
+          named = goes.on_false g.closed f.named;
+          typed = record { own_vars = typed.own_vars; types = typed.types };
+        };
+        vars = goes.grown.later.vars;
+      }))
+      (both_answers (tested site t st) (tested_kept site g.ground.are t st f.kept) (both_answers (tested site t st) (tested_goes site t st) (goes_of (tested site t st) (tested_stays site g.closed t st f.typed))))
 
   -- where a side of a test begins
   pub true_place : (test : core.Test) (p : Point) (st : State) (sides : Sides) → tested site test st ≡ Ok sides → Place set site p st → Place set site p (on_side sides.on_true sides.after)

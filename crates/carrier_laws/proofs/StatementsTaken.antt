@@ -1,34 +1,26 @@
 -- The same of statements: notes of states and of ways where control meets, and those of what stands between.
-use Rattle.std.proofs.Common.{◌≡◌, ◌∙◌, ℕ, suc, ◌+◌, Bool as Truth, true, false, ◌&&◌, ◌||◌, List, [], ◌∷◌, ◌++◌, length, map, Option, Some, None, Result, refl, sym, ap, subst, arith, append_assoc, append-nil}
-use Rattle.std.specs.List.{list_all}
+use Rattle.std.proofs.Common.{◌≡◌, ◌∙◌, ℕ, suc, ◌+◌, Bool as Truth, true, false, ◌&&◌, ◌||◌, List, [], ◌∷◌, ◌++◌, length, Option, Some, None, refl, sym, ap, subst, arith, append_assoc, append-nil}
 use Rattle.std.proofs.lemmas.List.{length-append}
 use Rattle.lowering.specs.OneInstruction.{label_if}
 use Rattle.lowering.specs.StatementCode.{statement_labels, block_labels, statement_size, first_at, second_at, meet_at, behind_loop, meet, is_stated}
 use Rattle.lowering.specs.TestCode.{test_labels}
-use Rattle.operation_rules.specs.Applied.{all_assuming, widened}
-use Rattle.operation_rules.specs.Forms.{variables_from}
-use Rattle.operation_rules.specs.Faults.{filled}
 use Rattle.operation_rules.specs.declared.operation.Operation.TheVariants.{Untuple, Store, Print, Return}
 use Rattle.state_types.specs.declared.state.StateType.{StateType}
 use Rattle.state_types.specs.declared.types.Ty.{Ty}
 use Rattle.state_types.specs.declared.types.Ty.TheVariants as ty
-use Rattle.xan_lin.specs.Linear.{Linear}
 use Rattle.xan_lin.specs.Subst.{zero_form}
 use Rattle.xanadu_tree.specs.BodyRules.{completes_all}
 use Rattle.xanadu_tree.specs.declared.stmt.Clause.{Clause}
 use Rattle.xanadu_tree.specs.Plain as core
 use Rattle.typed_core.specs.Constructs.{types_by, state_by}
-use Rattle.typed_core.specs.Joins.{Joint, changes_any, stated, joined, entered, entered_if, renewing, stating, stated_types, with_types, few_places, renewed, naming_more, met_there, within_bounds, values_at}
-use Rattle.typed_core.specs.Forms.{renamed}
-use Rattle.typed_core.specs.Limits.{by_rule, within, held}
-use Rattle.typed_core.specs.Strays.{values_rise, clause_rises, row_below}
+use Rattle.typed_core.specs.Joins.{Joint, changes_any, stated, joined, entered, entered_if, met_there, within_bounds, values_at}
+use Rattle.typed_core.specs.Limits.{within}
 use Rattle.xan_lin.specs.declared.term.LimitKind.TheVariants as limit
-use Rattle.xan_lin.specs.declared.term.TooLarge.{TooLarge}
 use Rattle.state_types.specs.PlaceTypes.{type_at}
 use Rattle.typed_core.specs.Operands.{operand}
 use Rattle.typed_core.specs.Statements.{assigned, all_given, split, store, done, printed, returning, Branches, meeting, after_branches, other_branch}
 use Rattle.typed_core.specs.Statements as elaborated
-use Rattle.typed_core.specs.States.{Site, State, given, as_tuple, noting_state, point, resuming, with_fresh, assuming, like}
+use Rattle.typed_core.specs.States.{Site, State, given, as_tuple, noting_state, point, like}
 use Rattle.typed_core.specs.Tests.{on_side, tested}
 use Rattle.typed_core.specs.declared.note.Note.{Note}
 use Rattle.typed_core.specs.declared.note.Note.TheVariants as note
@@ -42,6 +34,7 @@ use Rattle.type_carrier.specs.CarriedStatements.{statement, block, way_if, past_
 use Rattle.type_carrier.specs.CarriedStatements as statements
 use Rattle.type_carrier.specs.ProvedRows.{behind_front, plain}
 use Rattle.three_address.specs.declared.typed.Edge.{Edge}
+use Rattle.carrier_laws.proofs.JoinsNoted.{joined_noted}
 use Rattle.carrier_laws.proofs.LabelsTaken.{TakesAll, Left, in_now, all_on, all_as, all_now, all_none, label_left, label_taken, past_taken, test_taken}
 use Rattle.carrier_laws.proofs.NotesTaken.{Takes, takes_on, takes_as, at_note, state_taken, types_taken, operand_taken, value_taken}
 
@@ -138,39 +131,9 @@ module _ (site : Site) (from : Sources) where
     noted : Note
     is : more.notes ≡ a ++ noted ∷ []
 
-  fresh_same : (count : ℕ) (st : State) → Goes (λ more. more.notes ≡ st.notes) (with_fresh count st)
-  unfolding with_fresh
-  fresh_same count st = then_answers (by_rule (filled (widened count st.ctx))) _ (any_answer (by_rule (filled (widened count st.ctx)))) (λ ctx u. record { is = refl })
-
-  assumed_same : (rows : List (Result Linear TooLarge)) (st : State) → Goes (λ more. more.notes ≡ st.notes) (assuming rows st)
-  unfolding assuming
-  assumed_same rows st = then_answers (by_rule (filled (all_assuming rows st.ctx))) _ (any_answer (by_rule (filled (all_assuming rows st.ctx)))) (λ ctx u. record { is = refl })
-
-  renewing_same : (clause : Clause) (changed : ℕ → Truth) (before : StateType) (latest : State) → Goes (λ r. r.1.notes ≡ latest.notes) (renewing clause changed before latest)
-  unfolding renewing
-  renewing_same clause changed before latest =
-      then_answers (few_places before.places) _ (any_answer (few_places before.places))
-      (λ u h. let kept = renewed changed clause.vars (latest.ctx.vars + clause.quant.count) before.places (record { types = []; others = [] }) in
-      then_answers (with_fresh (clause.quant.count + length kept.others) (resuming before.ctx.rows before.places latest)) _
-      (fresh_same (clause.quant.count + length kept.others) (resuming before.ctx.rows before.places latest)) (λ more g. record { is = g }))
-
-  stating_same : (naming : List (ℕ × Linear)) (own : ℕ) (clause : Clause) (st : State) → Goes (λ r. r.1.notes ≡ st.notes) (stating naming own clause st)
-  unfolding stating
-  stating_same naming own clause st =
-      then_answers (held (values_rise 0 naming)) _ (any_answer (held (values_rise 0 naming)))
-      (λ u h. then_answers (held (clause_rises clause)) _ (any_answer (held (clause_rises clause)))
-      (λ v g. then_answers (held (list_all (row_below st.ctx.vars) (map (renamed naming own) clause.quant.rows))) _
-      (any_answer (held (list_all (row_below st.ctx.vars) (map (renamed naming own) clause.quant.rows))))
-      (λ w k. then_answers (assuming (map (renamed naming own) clause.quant.rows) st) _ (assumed_same (map (renamed naming own) clause.quant.rows) st) (λ more l. record { is = l }))))
-
   joined_notes : (clause : Clause) (changed : ℕ → Truth) (before : StateType) (latest : State) → Goes (λ r. Notes latest.notes r.1) (joined site clause changed before latest)
-  unfolding joined noting_state
   joined_notes clause changed before latest =
-      then_answers (renewing clause changed before latest) _ (renewing_same clause changed before latest)
-      (λ r h. let begun = naming_more (variables_from clause.first latest.ctx.vars clause.quant.count) r.1 in
-      then_answers (stating begun.naming site.own.vars clause begun) _ (stating_same begun.naming site.own.vars clause begun)
-      (λ s g. then_answers (stated_types s.1.naming site.own.vars clause.vars []) _ (any_answer (stated_types s.1.naming site.own.vars clause.vars []))
-      (λ wanted u. record { is = record { noted = _; is = ap (λ ns. ns ++ note.State (record { ctx = record { vars = s.1.ctx.vars; rows = s.1.ctx.rows }; places = with_types wanted r.0.types }) ∷ []) (g ∙ h) } })))
+      weaker (joined site clause changed before latest) (λ r h. record { noted = point r.1; is = h.notes }) (joined_noted site clause changed before latest)
 
   entered_notes : (at : ℕ) (joint : Joint) (end : StateType) (st : State) → Goes (λ more. NotesOne st.notes more) (entered site at joint end st)
   unfolding entered

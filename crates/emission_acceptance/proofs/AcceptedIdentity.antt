@@ -1,5 +1,5 @@
 -- A typed program of one instruction, its place in a slot: fun main(x: int): int { return x; }. It meets all that is asked, and so it is accepted.
-use Rattle.std.proofs.Common.{◌≡◌, ℕ, zero, suc, pos, ◌+◌, ◌<◌, true, List, [], ◌∷◌, codes, Some, None, nat_lt, lit≤, slice_get, refl, arith, rules, subst}
+use Rattle.std.proofs.Common.{◌≡◌, ℕ, zero, suc, pos, ◌<◌, true, List, [], ◌∷◌, Some, None, nat_lt, lit≤, slice_get, refl, arith, rules, subst}
 use Rattle.std.specs.List.{Contains, slice_index_or}
 use Rattle.std.proofs.lemmas.List.Elements.{All-nil, All-cons}
 use Rattle.std.proofs.lemmas.Option.{none-some, same_Some}
@@ -18,27 +18,26 @@ use Rattle.operation_rules.specs.Rules.{rule, matching, returned}
 use Rattle.operation_rules.specs.Sound.{IsHeader, IsSetting}
 use Rattle.operation_rules.specs.declared.operation.Operation.TheVariants.{Return}
 use Rattle.three_address.specs.Demands.{AllProved}
-use Rattle.three_address.specs.Flow.{instruction_at, reads_at, writes_at}
+use Rattle.three_address.specs.Flow.{instruction_at, writes_at}
 use Rattle.three_address.specs.Instructions.{instruction_of}
 use Rattle.three_address.specs.Splits.{parts_of}
 use Rattle.three_address.specs.Typing.{Allows, IsTypedFun, IsTyped, ruled_in, setting_of, state_of, stated, numbered, TypeExists}
-use Rattle.three_address.specs.declared.assignment.Assignment.{Assignment}
 use Rattle.three_address.specs.declared.function.LowFun.{LowFun}
 use Rattle.three_address.specs.declared.function.Lowered.{Lowered}
 use Rattle.three_address.specs.declared.instruction.LowInstr.{LowInstr}
-use Rattle.three_address.specs.declared.instruction.Op22.TheVariants as op
 use Rattle.three_address.specs.declared.typed.Edge.{Edge}
 use Rattle.three_address.specs.declared.typed.Typed.{Typed}
-use Rattle.three_address.proofs.LowSources.{number_sig, plain}
+use Rattle.three_address.proofs.LowSources.{number_sig}
 use Rattle.dtal_code.specs.Acceptance.{Accepted}
 use Rattle.dtal_code.specs.Declarations.{are_alone}
 use Rattle.dtal_code.specs.Grammar.{IsFormIn, IsTyIn, IsSignature}
 use Rattle.dtal_emit.specs.Emitted.{emitted, emitted_all, emitted_instr}
-use Rattle.dtal_emit.specs.Homes.{home_of, entry_moves}
-use Rattle.emission_laws.specs.ApartHomes.{AreSlots, Rise}
+use Rattle.dtal_emit.specs.Homes.{entry_moves}
+use Rattle.emission_laws.specs.ApartHomes.{Rise}
 use Rattle.emission_laws.specs.EmittedRanges.{AreRanged, AreRangedFuns, BlocksEnd, IsRanged}
 use Rattle.emission_laws.specs.FollowedRuns.{main_number}
 use Rattle.emission_laws.proofs.EmittedPrograms.{program_in}
+use Rattle.emission_laws.proofs.FollowedIdentity.{gives_back, same_fun, no_edge, in_slot, one_slot, reads_small}
 use Rattle.emission_laws.proofs.SlotsApart.{slots_apart}
 use Rattle.emission_acceptance.specs.Acceptable.{IsAcceptableAt, AreAcceptable}
 use Rattle.emission_acceptance.specs.ReadyCode.{IsShortCode}
@@ -49,17 +48,8 @@ use Rattle.emission_acceptance.proofs.TypedStretches.{accepted_programs}
 
 -- ---- it is typed
 
-abbrev gives_back : LowInstr
-gives_back = plain op.Ret (0 ∷ [])
-
-abbrev same_fun : LowFun
-same_fun = record { name = codes "main"; sig = number_sig; places = 1; code = gives_back ∷ []; labels = [] }
-
 abbrev same_program : Lowered
 same_program = record { funs = same_fun ∷ []; table = int_cell ∷ bool_cell ∷ []; main = 0 }
-
-abbrev no_edge : Edge
-no_edge = record { values = []; by = [] }
 
 abbrev start : StateType
 start = state_of (record { vars = 1; rows = [] }) ((0, ty.Int (variable_form 0)) ∷ [])
@@ -155,22 +145,6 @@ same_is_typed = record {
 }
 
 -- ---- its place is in a slot
-
-abbrev in_slot : Assignment
-in_slot = record { homes = (16 ∷ []) ∷ [] }
-
-one_slot : AreSlots (16 ∷ []) 1
-one_slot = record { as_many = refl; few = omega arith; each = each_slot }
-  where
-    each_slot : (place : ℕ) → place < 1 → home_of (16 ∷ []) place ≡ 16 + place
-    each_slot zero h = refl
-    each_slot (suc place) h = absurd (omega (arith, h))
-
-reads_small : (at place : ℕ) → Contains (reads_at same_fun at) place → place < 1
-unfolding reads_at instruction_at instruction_of
-reads_small zero place (zero, lt, e) = omega (arith, e)
-reads_small zero place (suc k, lt, e) = absurd (omega (arith, lt))
-reads_small (suc at) place (k, lt, e) = absurd (omega (arith, lt))
 
 writes_small : (at place : ℕ) → Contains (writes_at same_fun at) place → place < 1
 unfolding writes_at instruction_at instruction_of

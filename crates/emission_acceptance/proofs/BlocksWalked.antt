@@ -1,7 +1,8 @@
 -- Stretches that are walked make blocks that stand.
 use Rattle.std.proofs.Common.{◌≡◌, ◌⊎◌, inl, inr, ℕ, zero, suc, ◌+◌, ◌-◌, ◌<◌, ◌≤◌, List, [], ◌∷◌, ◌++◌, length, take, drop, map, Option, Some, refl, sym, ap, ◌∙◌, arith, subst, slice_get, take_all, drop-drop}
 use Rattle.std.specs.List.{AllZip, Contains, slice_index_or}
-use Rattle.std.proofs.lemmas.Option.{none-some, same_Some}
+use Rattle.std.proofs.lemmas.Option.{none-some, same_Some, slice_get_within}
+use Rattle.std.proofs.lemmas.List.{length-drop}
 use Rattle.state_types.specs.declared.state.StateType.{StateType}
 use Rattle.operation_rules.specs.Rules.{Setting}
 use Rattle.three_address.specs.declared.function.LowFun.{LowFun}
@@ -32,16 +33,6 @@ there : {A : Type 0} (xs : List A) (at : ℕ) → at < length xs → There xs at
 there [] at h = absurd (omega (arith, h))
 there (x ∷ xs) zero h = record { value = x; is = refl }
 there (x ∷ xs) (suc at) h = (let t = there xs at (omega (arith, h)) in record { value = t.value; is = t.is })
-
-pub within : {A : Type 0} (xs : List A) (at : ℕ) (x : A) → slice_get xs at ≡ Some x → at < length xs
-within [] at x e = absurd (none-some x e)
-within (y ∷ xs) zero x e = omega arith
-within (y ∷ xs) (suc at) x e = (let h = within xs at x e in omega (arith, h))
-
-length_behind : {A : Type 0} (n : ℕ) (xs : List A) → length (drop n xs) ≡ length xs - n
-length_behind zero xs = omega arith
-length_behind (suc n) [] = omega arith
-length_behind (suc n) (x ∷ xs) = (let h = length_behind n xs in omega (arith, h))
 
 among : {A : Type 0} (x z : A) (xs : List A) → Contains (x ∷ xs) z → (x ≡ z) ⊎ Contains xs z
 among x z xs c = by_place c.0 c.1 c.2
@@ -141,9 +132,9 @@ module _ (st : Setting) (fun : LowFun) (edges : List Edge) (homes : List ℕ) (k
     last_block at begin mid front befores walks comes reached =
         let code = drop at fun.code in
         let k = length code in
-        let size = length_behind at fun.code in
-        let also = length_behind at edges in
-        let within_code = within states at comes.low comes.is in
+        let size = length-drop at fun.code in
+        let also = length-drop at edges in
+        let within_code = slice_get_within states at comes.low comes.is in
         let w = walk_block k at mid (omega (arith, size, within_code, one_each)) (λ label h l c. (let bad = reached label c h in let z = bad.1 in absurd (omega (arith, z)))) (λ h. comes) in
         let whole : pieces at k ≡ emitted_all homes code (drop at edges) =
         ap (λ l. emitted_all homes l (take k (drop at edges))) (take_all k code (omega arith))
@@ -171,7 +162,7 @@ module _ (st : Setting) (fun : LowFun) (edges : List Edge) (homes : List ℕ) (k
     blocks_stand at state (next ∷ positions) (label ∷ labels) begin mid front befores walks comes rise reached marked =
         let k = next - at in
         let upto = rise.0 in
-        let inside = within states next marked.0.low marked.0.is in
+        let inside = slice_get_within states next marked.0.low marked.0.is in
         let w = walk_block k at mid (omega (arith, upto, inside, one_each)) (λ label h l c. no_label label h l (reached label c h)) (λ h. comes) in
         let text = text_of homes label in
         let behind : at + k ≡ next = omega (arith, upto) in

@@ -4,7 +4,8 @@ use Rattle.std.specs.Prelude.{int_lt}
 use Rattle.std.specs.List.{AllZip}
 use Rattle.std.proofs.lemmas.Bool.Decides.{nat_tests}
 use Rattle.std.proofs.lemmas.Int.{ints}
-use Rattle.std.proofs.lemmas.Option.{none-some, same_Some}
+use Rattle.std.proofs.lemmas.Option.{none-some, same_Some, slice_get_within}
+use Rattle.std.proofs.lemmas.List.{length-map}
 use Rattle.state_types.proofs.Thens.{then_ok, ok_same}
 use Rattle.state_types.specs.declared.closed.Packed.{Packed}
 use Rattle.state_types.specs.declared.closed.Signature.{Signature}
@@ -32,6 +33,7 @@ use Rattle.emission_laws.proofs.KindsOfInstructions.{same_operation}
 use Rattle.emission_acceptance.specs.ReadyCode.{IsShortCode}
 use Rattle.emission_acceptance.proofs.RuledCounts.{ruled_parts, form_writes}
 use Rattle.emission_acceptance.proofs.RulesFew.{rules_few, named_type, called_function}
+use Rattle.dtal_safety.proofs.Lookups.{zip_lengths}
 
 -- ---- lists
 
@@ -64,17 +66,6 @@ present [] n h = absurd (omega (arith, h))
 present (x ∷ xs) zero h = record { value = x; there = refl }
 present (x ∷ xs) (suc n) h = (let p = present xs n (omega (arith, h)) in record { value = p.value; there = p.there })
 
-inside : {A : Type 0} (xs : List A) (n : ℕ) (x : A) → slice_get xs n ≡ Some x → n < length xs
-inside [] n x e = absurd (none-some x e)
-inside (y ∷ xs) zero x e = omega arith
-inside (y ∷ xs) (suc n) x e = (let h = inside xs n x e in omega (arith, h))
-
-as_long : {A B : Type 0} (R : A → B → Type 0) (xs : List A) (ys : List B) → AllZip R xs ys → length xs ≡ length ys
-as_long R [] [] all = refl
-as_long R [] (y ∷ ys) all = absurd all
-as_long R (x ∷ xs) [] all = absurd all
-as_long R (x ∷ xs) (y ∷ ys) all = ap suc (as_long R xs ys all.1)
-
 record Beside {A B : Type 0} (R : A → B → Type 0) (xs : List A) (y : B) : Type 0 where
   value : A
   holds : R value y
@@ -97,16 +88,16 @@ operation_there None places form e = absurd (none-some form e)
 operation_there (Some o) places form e = ap Some (sym (operation_same _ o places form e))
 
 -- the number of a type is a natural one, that of the operation
-record IsTypeOf (number : ℤ) (operation : Operation) : Type 0 where
-  n : ℕ
-  is : number ≡ pos n
-  named : named_type operation ≡ Some n
+pub record IsTypeOf (number : ℤ) (operation : Operation) : Type 0 where
+  pub n : ℕ
+  pub is : number ≡ pos n
+  pub named : named_type operation ≡ Some n
 
 type_named : (number : ℤ) (make : ℕ → Operation) (operation : Operation) → ((n : ℕ) → named_type (make n) ≡ Some n) → of_type number make ≡ Some operation → IsTypeOf number operation
 type_named (pos n) make operation named e = record { n = n; is = refl; named = ap named_type (sym (same_Some (make n) operation e)) ∙ named n }
 type_named (negsuc n) make operation named e = absurd (none-some operation e)
 
-number_named : (o : Op22) (number : ℤ) (target listed : ℕ) (operation : Operation) → names_type o ≡ true → operation_of o number target listed ≡ Some operation → IsTypeOf number operation
+pub number_named : (o : Op22) (number : ℤ) (target listed : ℕ) (operation : Operation) → names_type o ≡ true → operation_of o number target listed ≡ Some operation → IsTypeOf number operation
 number_named low.New number target listed operation t e = type_named number New operation (λ n. refl) e
 number_named low.Tup number target listed operation t e = type_named number Tuple operation (λ n. refl) e
 number_named low.Untup number target listed operation t e = type_named number (λ p. Untuple p (listed - 1)) operation (λ n. refl) e
@@ -122,10 +113,6 @@ read_count (place ∷ places) types e =
     let a = then_ok (or_fault NoPlace place) _ types e in
     let b = then_ok (all_there places) _ types a.second in
     ap length (sym (ok_same _ types b.second)) ∙ ap suc (read_count places b.value b.first)
-
-length_map : {A B : Type 0} (f : A → B) (xs : List A) → length (map f xs) ≡ length xs
-length_map f [] = refl
-length_map f (x ∷ xs) = ap suc (length_map f xs)
 
 -- ---- an instruction
 
@@ -149,7 +136,7 @@ module _ (low_code : Lowered) (short : IsShortCode low_code) (own : Signature) w
       let p = ruled_parts st i.operation _ state.ctx allows.ruled allows.by_rule in
       let few = rules_few st parts_few params_few i.operation p.types state.ctx.vars p.r p.is_rule in
       let count = read_count _ p.types p.there in
-      let many = length_map (λ place. type_at place state.places) i.reads in
+      let many = length-map i.reads (λ place. type_at place state.places) in
       let writes = form_writes instr i allows.is in
       let read = few.few_read in
       let written = few.few_written in
@@ -175,13 +162,13 @@ pub fun_ready : (low_code : Lowered) (number : ℕ) (fun : LowFun) (labels : Lis
     → IsTypedFun low_code fun labels edges → IsReadyFun low_code.funs fun (length labels) edges
 fun_ready low_code number fun labels edges short there typed =
     let R : StateType → ℕ → Type 0 = λ label at. IsLabel low_code.table fun.sig label (slice_get typed.states at) in
-    let many = as_long R labels fun.labels typed.label_each in
+    let many = zip_lengths R labels fun.labels typed.label_each in
     let one_each = typed.one_each in
     let edge_each = typed.edge_each in
     record {
       few_params = each_at (λ (f : LowFun). length f.sig.params ≤ 8) low_code.funs number fun short.params there;
       instrs = λ at instr e.
-          (let h = inside fun.code at instr e in
+          (let h = slice_get_within fun.code at instr e in
           let s = present typed.states at (omega (arith, h, one_each)) in
           let d = present edges at (omega (arith, h, edge_each)) in
           instr_ready low_code short fun.sig fun.places labels s.value instr d.value _ (typed.allowed at s.value instr d.value s.there e d.there));
@@ -195,7 +182,7 @@ fun_ready low_code number fun labels edges short there typed =
     stands before at e =
         let R : StateType → ℕ → Type 0 = λ label place. IsLabel low_code.table fun.sig label (slice_get typed.states place) in
         let b = beside R labels fun.labels before at typed.label_each e in
-        let h = inside typed.states at _ b.holds.is_before in
+        let h = slice_get_within typed.states at _ b.holds.is_before in
         let one_each = typed.one_each in
         omega (arith, h, one_each)
 

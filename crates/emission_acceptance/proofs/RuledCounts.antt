@@ -1,7 +1,8 @@
 -- An operation's rule gives a type for each place that the operation writes.
-use Rattle.std.proofs.Common.{◌≡◌, ℕ, zero, suc, ◌+◌, ◌≤◌, ◌==◌, ℤ, pos, Bool, true, false, List, [], ◌∷◌, length, map, take, drop, Option, Some, None, Result, Ok, Err, slice_get, if◌then◌else◌, refl, sym, ap, subst, ◌∙◌, arith}
+use Rattle.std.proofs.Common.{◌≡◌, ℕ, zero, suc, ◌+◌, ◌≤◌, ◌==◌, ℤ, pos, Bool, true, false, List, [], ◌∷◌, length, take, drop, Option, Some, None, Result, Ok, Err, slice_get, if◌then◌else◌, refl, sym, ap, subst, ◌∙◌, arith}
 use Rattle.std.proofs.lemmas.Bool.Decides.{nat_tests}
 use Rattle.std.proofs.lemmas.Option.{none-some, same_Some}
+use Rattle.std.proofs.lemmas.List.{length-map}
 use Rattle.index_sorts.specs.Context.{IndexContext}
 use Rattle.xan_lin.specs.Linear.{Linear, sized, sum_of, difference_of, excess_of, product_of}
 use Rattle.xan_lin.specs.declared.term.TooLarge.{TooLarge}
@@ -25,10 +26,6 @@ use Rattle.three_address.specs.declared.instruction.LowInstr.{LowInstr}
 use Rattle.emission_laws.proofs.KindsOfInstructions.{same_operation}
 
 -- ---- rules
-
-pub length_map : {A B : Type 0} (f : A → B) (xs : List A) → length (map f xs) ≡ length xs
-length_map f [] = refl
-length_map f (x ∷ xs) = ap suc (length_map f xs)
 
 -- what the cells of an array hold is at least one word
 abbrev pub HaveCells : List Packed → Type 0
@@ -61,7 +58,7 @@ cell_count table number packed have e =
     subst (λ (p : Packed). 1 ≤ length p.parts) (ok_same _ packed s.second) (cells_if number s.value s.value.tuple refl (have number s.value there))
 
 part_types : (first : ℕ) (demands : List Linear) (packed : Packed) → length (opens first demands packed).given ≡ length packed.parts
-part_types first demands packed = length_map (λ part. let x : Result Ty TooLarge = Ok (shifted_type first part) in x) packed.parts
+part_types first demands packed = length-map packed.parts (λ part. let x : Result Ty TooLarge = Ok (shifted_type first part) in x)
 
 quotient_count : (first : ℕ) (types : List Ty) (r : Rule) → quotient first types ≡ Ok r → 1 ≤ length r.given
 unfolding quotient

@@ -5,6 +5,7 @@ use Rattle.std.proofs.lemmas.Bool.{cases_lt}
 use Rattle.std.proofs.lemmas.Bool.Decides.{nat_tests}
 use Rattle.std.proofs.lemmas.List.Elements.{All-head, All-tail}
 use Rattle.std.proofs.lemmas.Option.{none-some, same_Some}
+use Rattle.std.proofs.lemmas.List.{length-map}
 use Rattle.index_sorts.specs.Context.{IndexContext}
 use Rattle.state_types.specs.PlaceTypes.{type_at, with_type}
 use Rattle.state_types.specs.declared.state.StateType.{StateType}
@@ -36,12 +37,12 @@ use Rattle.emission_laws.proofs.ActingForms.{target_for, acts_so, are_few}
 use Rattle.emission_laws.proofs.KeptHeap.{kind_of}
 use Rattle.emission_laws.proofs.KindsOfInstructions.{kind_by, kind_same, is_going, going_target, is_formed, same_operation, goes_on, on_way, label_way}
 use Rattle.emission_laws.proofs.PlacesHeld.{all_homes, contains_first, contains_more}
-use Rattle.emission_laws.proofs.PoisedStates.{reads_there, writes_there, ways_there}
+use Rattle.emission_laws.proofs.PoisedStates.{length_registers, length_results, reads_there, writes_there, ways_there}
 use Rattle.emission_laws.specs.ApartHomes.{Kept, IsHome, IsReady}
 use Rattle.emission_acceptance.specs.TypesThrough.{AreTyped, Through, AreTypesApart, LabelsPass, Walks, WalkEnds, StretchStands}
 use Rattle.emission_acceptance.proofs.ActsTyped.{IsActed, WayPasses, is_silent_kind, going_silent, by_operation, few_vars}
 use Rattle.emission_acceptance.proofs.MovesTyped.{walk_joined, walk_one, move_verdict, AreClear, loaded}
-use Rattle.emission_acceptance.proofs.RuledCounts.{length_map, HaveCells, RuledParts, ruled_parts, types_count, form_writes}
+use Rattle.emission_acceptance.proofs.RuledCounts.{HaveCells, RuledParts, ruled_parts, types_count, form_writes}
 use Rattle.emission_acceptance.proofs.TypesHeld.{type_same, type_other, AreThere, there_found, there_listed, there_alike, AreAside, aside_all, one_aside, write_all}
 
 -- ---- pieces
@@ -71,16 +72,6 @@ it_stops : (o : Operation) → goes_on (kind_of o) ≡ false → Stops o
 it_stops Jump e = tt
 it_stops Return e = tt
 it_stops o e = absurd (let bad : ⊥ = cc in bad)
-
-length_registers : (hs : List ℕ) (scratch : ℕ) → length (registers scratch hs) ≡ length hs
-unfolding registers
-length_registers [] scratch = refl
-length_registers (h ∷ hs) scratch = ap suc (length_registers hs _)
-
-length_results : (hs : List ℕ) → length hs ≤ 1 → length (results hs) ≡ length hs
-length_results [] h = refl
-length_results (x ∷ []) h = refl
-length_results (x ∷ y ∷ hs) h = absurd (omega (arith, h))
 
 -- at most one place is different from all others
 one_differs : (xs : List ℕ) → length xs ≤ 1 → are_different xs ≡ true
@@ -403,8 +394,8 @@ module _ (st : Setting) (funs : List LowFun) (fun : LowFun) (labels : List State
           ∙ ap (λ k. by_kind k homes instr edge (homes_of homes form.writes) (homes_of homes form.reads)) t
           ∙ ap (λ l. with_edge homes instr edge l (homes_of homes form.reads) ∷ []) (all_homes homes form.writes few_written)
           ∙ ap (λ l. with_edge homes instr edge ws l ∷ []) (all_homes homes form.reads few_read) in
-          let many = length_map (home_of homes) form.writes in
-          let as_many = length_map (home_of homes) form.reads in
+          let many = length-map form.writes (home_of homes) in
+          let as_many = length-map form.reads (home_of homes) in
           let differ = homes_differ homes form.writes allows.differ (λ one other c d. apart.differ at one other
           (subst (λ l. Contains l one) (sym (writes_there fun at instr form is_there allows.is)) c) (subst (λ l. Contains l other) (sym (writes_there fun at instr form is_there allows.is)) d)) in
           let none : form.writes ≡ [] → ws ≡ [] = λ e. ap (map (home_of homes)) e in
@@ -425,8 +416,8 @@ module _ (st : Setting) (funs : List LowFun) (fun : LowFun) (labels : List State
           let few_w = counts.few_written in
           let hs = map (home_of homes) form.reads in
           let vs = map (home_of homes) form.writes in
-          let hs_many = length_map (home_of homes) form.reads in
-          let vs_many = length_map (home_of homes) form.writes in
+          let hs_many = length-map form.reads (home_of homes) in
+          let vs_many = length-map form.writes (home_of homes) in
           let l = loaded st texts low.ctx few 13 hs allows.types now (omega arith) (omega (arith, few_r, hs_many)) (clear form.reads) text_there in
           let rs = registers 13 hs in
           let ws = results vs in

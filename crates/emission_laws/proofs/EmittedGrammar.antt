@@ -4,6 +4,7 @@ use Rattle.std.specs.Int.{w64}
 use Rattle.std.specs.List.{All}
 use Rattle.std.proofs.lemmas.Bool.Decides.{nat_tests}
 use Rattle.std.proofs.lemmas.List.Elements.{All-nil, All-cons}
+use Rattle.std.proofs.lemmas.List.{length-map}
 use Rattle.proof_lines.specs.declared.line.Line.{Line}
 use Rattle.three_address.specs.Splits.{Parts, parts_by, parts_of}
 use Rattle.three_address.specs.declared.instruction.LowInstr.{LowInstr}
@@ -21,7 +22,6 @@ use Rattle.dtal_emit.specs.Emitted.{rank, count_before, inserted, ordered_from, 
 use Rattle.emission_laws.specs.ApartHomes.{IsHome, names_type}
 use Rattle.emission_laws.specs.EmittedRanges.{Each, goes_to_label, IsRangedInstr, AreRanged, ends_block, IsEnd, EndsLow}
 use Rattle.emission_laws.proofs.ActingForms.{are_few, fixed_counted}
-use Rattle.emission_laws.proofs.PoisedStates.{length_map}
 
 -- ---- lists
 
@@ -184,8 +184,8 @@ module _ (homes : List ℕ) (homes_are : (place : ℕ) → IsHome (home_of homes
   kind_in true i edge parts t e ranged =
       let ws = homes_of homes parts.0 in
       let rs = homes_of homes parts.1 in
-      let fw : length ws ≤ 8 = (let l = length_map (home_of homes) (take 8 parts.0) in let f = few_taken 8 parts.0 in omega (arith, l, f)) in
-      let fr : length rs ≤ 8 = (let l = length_map (home_of homes) (take 8 parts.1) in let f = few_taken 8 parts.1 in omega (arith, l, f)) in (
+      let fw : length ws ≤ 8 = (let l = length-map (take 8 parts.0) (home_of homes) in let f = few_taken 8 parts.0 in omega (arith, l, f)) in
+      let fr : length rs ≤ 8 = (let l = length-map (take 8 parts.1) (home_of homes) in let f = few_taken 8 parts.1 in omega (arith, l, f)) in (
         with_edge_in i edge ws rs ranged
             (in_places i.number i.target ws rs ranged.number ranged.target i.op t ranged.type fw fr (within_all ws (homes_in (take 8 parts.0))) (within_all rs (homes_in (take 8 parts.1)))),
         tt,
@@ -195,7 +195,7 @@ module _ (homes : List ℕ) (homes_are : (place : ℕ) → IsHome (home_of homes
       let rs = homes_of homes parts.1 in
       let few = are_few i.op i.number i.places parts t e in
       let read = few.few_read in
-      let fr : length rs ≤ 3 = (let l = length_map (home_of homes) (take 8 parts.1) in let f = taken_less 8 3 parts.1 read in omega (arith, l, f)) in
+      let fr : length rs ≤ 3 = (let l = length-map (take 8 parts.1) (home_of homes) in let f = taken_less 8 3 parts.1 read in omega (arith, l, f)) in
       each_append IsInstr (loads 13 rs) _ (loads_in rs 13 (homes_in (take 8 parts.1)) (omega (arith, fr))) (
         with_edge_in i edge (results ws) (registers 13 rs) ranged
             (in_registers i.number i.target (results ws) (registers 13 rs) ranged.number ranged.target i.op t ranged.type (results_in ws) (registers_in rs 13 (omega (arith, fr)))),
@@ -251,7 +251,7 @@ module _ (homes : List ℕ) (homes_are : (place : ℕ) → IsHome (home_of homes
       let ws = homes_of homes parts.0 in
       let rs = homes_of homes parts.1 in
       let w = c.writes_are in
-      let l = length_map (home_of homes) (take 8 parts.0) in
+      let l = length-map (take 8 parts.0) (home_of homes) in
       let t = taken_less 8 0 parts.0 (omega (arith, w)) in
       let none : stores ws ≡ [] = no_stores ws (omega (arith, l, t)) in
       ends_behind (loads 13 rs) _

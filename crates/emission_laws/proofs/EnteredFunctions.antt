@@ -3,6 +3,7 @@ use Rattle.std.proofs.Common.{◌≡◌, ◌≢◌, ◌⊎◌, inl, inr, ℕ, ze
 use Rattle.std.proofs.lemmas.Bool.{cases_lt}
 use Rattle.std.proofs.lemmas.Bool.Decides.{nat_tests}
 use Rattle.std.proofs.lemmas.Option.{none-some, same_Some}
+use Rattle.std.proofs.lemmas.List.{length-map}
 use Rattle.operation_rules.specs.FlatWords.{Flat}
 use Rattle.three_address.specs.Machine as low
 use Rattle.three_address.specs.declared.function.LowFun.{LowFun}
@@ -26,7 +27,7 @@ use Rattle.dtal_emit.proofs.WordMoves.{Leads, leads_here, leads_step, leads_appe
 use Rattle.dtal_safety.proofs.Lookups.{within_there}
 use Rattle.emission_laws.specs.ApartHomes.{IsHome}
 use Rattle.emission_laws.proofs.PlacesHeld.{AreHeld, same_or_other}
-use Rattle.emission_laws.proofs.PoisedStates.{stretch_has, emitted_is, piece_behind, piece_front, length_map}
+use Rattle.emission_laws.proofs.PoisedStates.{stretch_has, emitted_is, piece_behind, piece_front}
 use Rattle.emission_laws.proofs.RunsBeside.{stretch_at, Stands, text_state}
 use Rattle.emission_laws.proofs.StretchesStand.{stretch}
 
@@ -236,7 +237,7 @@ module _ (code : Code) (funs : List LowFun) (kept : (fun at place : ℕ) → Typ
       let piece = by_kind (takes_places i.value.op) stands.homes i.value edge.value (homes_of stands.homes ready.form.writes) (homes_of stands.homes ready.form.reads) in
       let some = not_empty (takes_places i.value.op) stands.homes i.value edge.value (homes_of stands.homes ready.form.writes) (homes_of stands.homes ready.form.reads) in
       let same : length (emitted_instr stands.homes i.value edge.value) ≡ length piece = ap length (emitted_is stands.homes i.value edge.value ready.form ready.is_form) in
-      let many = length_map (λ (x : Instr). resolved stands.at_label x.op) (emitted_instr stands.homes i.value edge.value) in
+      let many = length-map (emitted_instr stands.homes i.value edge.value) (λ (x : Instr). resolved stands.at_label x.op) in
       let o = within_there (ops_of stands.at_label (emitted_instr stands.homes i.value edge.value)) 0 (omega (arith, some, same, many)) in
       let at = stretch_at stands.start stands.homes fun stands.edges to in
       let g = get_bound code.ops (at + 0) o.value (has.by 0 o.value o.there) in

@@ -22,29 +22,29 @@ use Rattle.emission_laws.specs.FollowedRuns.{main_number, IsReadyAt, AreReady, R
 use Rattle.emission_laws.proofs.ProgramsFollow.{program_follows}
 use Rattle.emission_laws.proofs.SlotsApart.{slots_apart}
 
-abbrev gives_back : LowInstr
+abbrev pub gives_back : LowInstr
 gives_back = plain op.Ret (0 ∷ [])
 
-abbrev same_fun : LowFun
+abbrev pub same_fun : LowFun
 same_fun = record { name = codes "main"; sig = number_sig; places = 1; code = gives_back ∷ []; labels = [] }
 
-abbrev no_edge : Edge
+abbrev pub no_edge : Edge
 no_edge = record { values = []; by = [] }
 
 abbrev identity : Typed
 identity = record { low = record { funs = same_fun ∷ []; table = []; main = 0 }; states = [] ∷ []; edges = (no_edge ∷ []) ∷ [] }
 
-abbrev in_slot : Assignment
+abbrev pub in_slot : Assignment
 in_slot = record { homes = (16 ∷ []) ∷ [] }
 
-one_slot : AreSlots (16 ∷ []) 1
+pub one_slot : AreSlots (16 ∷ []) 1
 one_slot = record { as_many = refl; few = omega arith; each = each_slot }
   where
     each_slot : (place : ℕ) → place < 1 → home_of (16 ∷ []) place ≡ 16 + place
     each_slot zero h = refl
     each_slot (suc place) h = absurd (omega (arith, h))
 
-reads_small : (at place : ℕ) → Contains (reads_at same_fun at) place → place < 1
+pub reads_small : (at place : ℕ) → Contains (reads_at same_fun at) place → place < 1
 unfolding reads_at instruction_at instruction_of
 reads_small zero place (zero, lt, e) = omega (arith, e)
 reads_small zero place (suc k, lt, e) = absurd (omega (arith, lt))

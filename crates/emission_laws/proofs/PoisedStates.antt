@@ -4,6 +4,7 @@ use Rattle.std.specs.List.{Contains}
 use Rattle.std.proofs.lemmas.Bool.{cases_lt}
 use Rattle.std.proofs.lemmas.Bool.Decides.{nat_tests}
 use Rattle.std.proofs.lemmas.Option.{none-some, same_Some}
+use Rattle.std.proofs.lemmas.List.{length-map, map-append}
 use Rattle.operation_rules.specs.FlatWords.{Flat}
 use Rattle.three_address.specs.Flow.{instruction_at, reads_at, writes_at, ways_from, label_at, ways, reads_of, writes_of, ways_of, target_of, with_instruction}
 use Rattle.three_address.specs.Instructions as places
@@ -36,25 +37,29 @@ use Rattle.emission_laws.proofs.PlacesHeld.{all_homes, contains_first, AreHeld, 
 use Rattle.emission_laws.proofs.RunsBeside.{stretch_at, Stands, text_state}
 use Rattle.emission_laws.proofs.StretchesStand.{stretch}
 
+-- ---- how many registers
+
+pub length_registers : (hs : List ℕ) (scratch : ℕ) → length (registers scratch hs) ≡ length hs
+unfolding registers
+length_registers [] scratch = refl
+length_registers (h ∷ hs) scratch = ap suc (length_registers hs _)
+
+pub length_results : (hs : List ℕ) → length hs ≤ 1 → length (results hs) ≡ length hs
+length_results [] h = refl
+length_results (x ∷ []) h = refl
+length_results (x ∷ y ∷ hs) h = absurd (omega (arith, h))
+
 -- ---- object code of a stretch
-
-map_append : {A B : Type 0} (f : A → B) (xs ys : List A) → map f (xs ++ ys) ≡ map f xs ++ map f ys
-map_append f [] ys = refl
-map_append f (x ∷ xs) ys = ap (λ l. f x ∷ l) (map_append f xs ys)
-
-pub length_map : {A B : Type 0} (f : A → B) (xs : List A) → length (map f xs) ≡ length xs
-length_map f [] = refl
-length_map f (x ∷ xs) = ap suc (length_map f xs)
 
 pub piece_behind : (ops : List RunOp) (at_label : ℕ → ℕ) (at : ℕ) (xs ys : List Instr) → Has ops at (ops_of at_label (xs ++ ys)) → Has ops (at + length xs) (ops_of at_label ys)
 piece_behind ops at_label at xs ys h =
     let f = λ (i : Instr). resolved at_label i.op in
-    subst (λ n. Has ops (at + n) (ops_of at_label ys)) (length_map f xs)
-    (has_back ops at (ops_of at_label xs) (ops_of at_label ys) (subst (Has ops at) (map_append f xs ys) h))
+    subst (λ n. Has ops (at + n) (ops_of at_label ys)) (length-map xs f)
+    (has_back ops at (ops_of at_label xs) (ops_of at_label ys) (subst (Has ops at) (map-append f xs ys) h))
 
 pub piece_front : (ops : List RunOp) (at_label : ℕ → ℕ) (at : ℕ) (xs ys : List Instr) → Has ops at (ops_of at_label (xs ++ ys)) → Has ops at (ops_of at_label xs)
 piece_front ops at_label at xs ys h =
-    let f = λ (i : Instr). resolved at_label i.op in has_front ops at (ops_of at_label xs) (ops_of at_label ys) (subst (Has ops at) (map_append f xs ys) h)
+    let f = λ (i : Instr). resolved at_label i.op in has_front ops at (ops_of at_label xs) (ops_of at_label ys) (subst (Has ops at) (map-append f xs ys) h)
 
 pub stretch_has : (ops : List RunOp) (at_label : ℕ → ℕ) (start : ℕ) (m all p s r : List Instr) → all ≡ p ++ (s ++ r) → Has ops start (ops_of at_label (m ++ all))
     → Has ops (start + (length m + length p)) (ops_of at_label s)
@@ -211,7 +216,7 @@ module _ (code : Code) (funs : List LowFun) (kept : (fun at place : ℕ) → Typ
           read = read_alike homes (kept number at) words b.places form.reads found held all_read reads;
           run = resolved stands.at_label (acting i.op i.number i.target ws rs);
           there = has_first code.ops b.at (resolved stands.at_label (acting i.op i.number i.target ws rs)) [] has;
-          acts = operation_is ws rs (length_map (home_of homes) form.writes) (length_map (home_of homes) form.reads);
+          acts = operation_is ws rs (length-map form.writes (home_of homes)) (length-map form.reads (home_of homes));
           silent = λ none. on;
           calls = λ c. (refl, on);
           puts = put_there b.at b.places ws refl on held;
@@ -264,7 +269,7 @@ module _ (code : Code) (funs : List LowFun) (kept : (fun at place : ℕ) → Typ
 
       loaded : moves.LoadsTo code (text_state code funs kept store depth (b ∷ bs)) b bs (length front) 13 registers_read found
       loaded =
-          let many : length (map (home_of homes) form.reads) ≡ length form.reads = length_map (home_of homes) form.reads in
+          let many : length (map (home_of homes) form.reads) ≡ length form.reads = length-map form.reads (home_of homes) in
           let small = few in
           let room : 13 + length (map (home_of homes) form.reads) ≤ 16 = omega (arith, many, small) in
           let read = read_alike homes (kept number at) words b.places form.reads found held all_read reads in
@@ -280,16 +285,6 @@ module _ (code : Code) (funs : List LowFun) (kept : (fun at place : ℕ) → Typ
 
       has_acting : Has code.ops (b.at + length front) (ops_of stands.at_label (with_edge homes i edge (results (map (home_of homes) form.writes)) registers_read ∷ stores (map (home_of homes) form.writes)))
       has_acting = piece_behind code.ops stands.at_label b.at front _ (subst (λ l. Has code.ops b.at (ops_of stands.at_label l)) (piece_is t form.writes refl) piece)
-
-      length_registers : (hs : List ℕ) (scratch : ℕ) → length (registers scratch hs) ≡ length hs
-      unfolding registers
-      length_registers [] scratch = refl
-      length_registers (h ∷ hs) scratch = ap suc (length_registers hs _)
-
-      length_results : (hs : List ℕ) → length hs ≤ 1 → length (results hs) ≡ length hs
-      length_results [] h = refl
-      length_results (x ∷ []) h = refl
-      length_results (x ∷ y ∷ hs) h = absurd (omega (arith, h))
 
       abbrev result_places : List ℕ
       result_places = results (map (home_of homes) form.writes)
@@ -390,7 +385,7 @@ module _ (code : Code) (funs : List LowFun) (kept : (fun at place : ℕ) → Typ
 
     poised_registers : takes_places i.op ≡ false → IsPoised store depth number at words b bs fun stands i form found
     poised_registers t =
-        let many = length_results t (map (home_of homes) form.writes) (let l = length_map (home_of homes) form.writes in let o = one t in omega (arith, l, o)) in
+        let many = length_results (map (home_of homes) form.writes) (let l = length-map form.writes (home_of homes) in let o = one t in omega (arith, l, o)) in
         record {
           here = b.at + length front;
           places = (loaded t).places;
@@ -401,8 +396,8 @@ module _ (code : Code) (funs : List LowFun) (kept : (fun at place : ℕ) → Typ
           read = (loaded t).loaded.held;
           run = resolved stands.at_label (acting i.op i.number i.target (result_places t) registers_read);
           there = has_first code.ops (b.at + length front) (resolved stands.at_label (acting i.op i.number i.target (result_places t) registers_read)) _ (has_acting t);
-          acts = operation_is (result_places t) registers_read (many ∙ length_map (home_of homes) form.writes)
-              (length_registers t (map (home_of homes) form.reads) 13 ∙ length_map (home_of homes) form.reads);
+          acts = operation_is (result_places t) registers_read (many ∙ length-map form.writes (home_of homes))
+              (length_registers (map (home_of homes) form.reads) 13 ∙ length-map form.reads (home_of homes));
           silent = silent_on t;
           calls = λ c. absurd (no_call t c);
           puts = λ way. puts_whole t way;

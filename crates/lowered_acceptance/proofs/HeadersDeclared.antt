@@ -6,7 +6,7 @@ use Rattle.std.specs.Option.{option_and_then}
 use Rattle.std.proofs.lemmas.Bool.Decides.{nat_tests}
 use Rattle.std.proofs.lemmas.Bool.{and_from}
 use Rattle.std.proofs.lemmas.Slice.Eq.{bytes_eq-Decides}
-use Rattle.std.proofs.lemmas.Option.{none-some, same_Some}
+use Rattle.std.proofs.lemmas.Option.{none-some, same_Some, slice_get_within}
 use Rattle.std.proofs.lemmas.List.Elements.{All-nil, All-cons}
 use Rattle.state_types.specs.Answers.{◌>>=◌}
 use Rattle.state_types.specs.Tables.{int_cell, bool_cell}
@@ -50,11 +50,6 @@ partner R (z ∷ xs) [] n x all e = absurd all
 partner R (z ∷ xs) (y ∷ ys) zero x all e = record { value = y; there = refl; holds = subst (λ a. R a y) (same_Some z x e) all.0 }
 partner R (z ∷ xs) (y ∷ ys) (suc n) x all e = (let p = partner R xs ys n x all.1 e in record { value = p.value; there = p.there; holds = p.holds })
 
-within : {A : Type 0} (xs : List A) (n : ℕ) (x : A) → slice_get xs n ≡ Some x → n < length xs
-within [] n x e = absurd (none-some x e)
-within (y ∷ xs) zero x e = omega arith
-within (y ∷ xs) (suc n) x e = (let h = within xs n x e in omega (arith, h))
-
 -- ---- types that exist
 
 module _ (types : List Packing) (rest : List Packed) (each : AllZip IsPackedOf types rest) where
@@ -63,7 +58,7 @@ module _ (types : List Packing) (rest : List Packed) (each : AllZip IsPackedOf t
 
   held_there : (n : ℕ) (found : Option Packing) (held : Kind) → slice_get types n ≡ found → option_and_then (held_kind (suc (suc n))) found ≡ Some held → suc (suc n) < length table
   held_there n None held is e = absurd (none-some held e)
-  held_there n (Some p) held is e = (let h = within types n p is in let l = as_long IsPackedOf types rest each in omega (arith, h, l))
+  held_there n (Some p) held is e = (let h = slice_get_within types n p is in let l = as_long IsPackedOf types rest each in omega (arith, h, l))
 
   pub element_there : (element : ℕ) (held : Kind) → cell_kind types element ≡ Some held → element < length table
   element_there zero held e = omega arith

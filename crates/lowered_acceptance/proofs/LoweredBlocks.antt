@@ -1,6 +1,7 @@
 -- The blocks of lowered code end, and its labels rise.
 use Rattle.std.proofs.Common.{◌≡◌, inl, inr, ℕ, zero, suc, ◌+◌, ◌-◌, ◌<◌, ◌≤◌, true, List, [], ◌∷◌, length, take, drop, Some, slice_get, refl, sym, ap, subst, ◌∙◌, arith, drop-drop}
 use Rattle.std.proofs.lemmas.Option.{none-some, same_Some}
+use Rattle.std.proofs.lemmas.List.{length-drop}
 use Rattle.xanadu_tree.specs.KindRules.{IsAmong}
 use Rattle.three_address.specs.declared.instruction.LowInstr.{LowInstr}
 use Rattle.three_address.specs.declared.instruction.Op22.{Op22}
@@ -58,11 +59,6 @@ all_end (i ∷ []) (suc before) instr size e end = absurd (none-some instr e)
 all_end (i ∷ j ∷ code) zero instr size e end = absurd (omega (arith, size))
 all_end (i ∷ j ∷ code) (suc before) instr size e end = all_end (j ∷ code) before instr (omega (arith, size)) e end
 
-length_behind : {A : Type 0} (n : ℕ) (xs : List A) → length (drop n xs) ≡ length xs - n
-length_behind zero xs = omega arith
-length_behind (suc n) [] = omega arith
-length_behind (suc n) (x ∷ xs) = (let h = length_behind n xs in omega (arith, h))
-
 module _ (code : List LowInstr) (forms : HaveForms code) where
   -- the code from a position up to one in front of which a block ends
   block_ends : (at next : ℕ) → at < next → EndsBefore code next → EndsLow (take (next - at) (drop at code))
@@ -79,7 +75,7 @@ module _ (code : List LowInstr) (forms : HaveForms code) where
       let is = ends.next in
       let place : at + (ends.before - at) ≡ ends.before = omega (arith, less, is) in
       let there : slice_get (drop at code) (ends.before - at) ≡ Some ends.instr = get_behind at (ends.before - at) code ∙ ap (slice_get code) place ∙ ends.there in
-      let size = length_behind at code in
+      let size = length-drop at code in
       all_end (drop at code) (ends.before - at) ends.instr (omega (arith, size, less, is)) there (is_end code ends.before ends.instr forms ends.there ends.stops)
 
   ends_from : (at least : ℕ) (labels : List ℕ) → at < least → Spaced least labels (length code) → ((label : ℕ) → IsAmong labels label → EndsBefore code label)

@@ -1,7 +1,7 @@
 -- Typed code with each place in a slot of its own is what emission makes an accepted program of.
 use Rattle.std.proofs.Common.{zero, ◌≡◌, ℕ, suc, ◌<◌, Bool, true, false, List, [], ◌∷◌, length, Option, Some, None, nat_lt, if◌then◌else◌, slice_get, refl, sym, subst, arith}
 use Rattle.std.specs.List.{All, Contains}
-use Rattle.std.proofs.lemmas.Option.{none-some, same_Some}
+use Rattle.std.proofs.lemmas.Option.{none-some, same_Some, slice_get_within}
 use Rattle.std.proofs.lemmas.List.Elements.{All-take, All-drop, All-contains}
 use Rattle.state_types.specs.PlaceTypes.{PlacesRise}
 use Rattle.state_types.specs.declared.state.StateType.{StateType}
@@ -40,11 +40,6 @@ present [] n h = absurd (omega (arith, h))
 present (x ∷ xs) zero h = record { value = x; there = refl }
 present (x ∷ xs) (suc n) h = (let p = present xs n (omega (arith, h)) in record { value = p.value; there = p.there })
 
-inside : {A : Type 0} (xs : List A) (n : ℕ) (x : A) → slice_get xs n ≡ Some x → n < length xs
-inside [] n x e = absurd (none-some x e)
-inside (y ∷ xs) zero x e = omega arith
-inside (y ∷ xs) (suc n) x e = (let h = inside xs n x e in omega (arith, h))
-
 -- ---- places of typed code
 
 pub record AreSmall (places : ℕ) (i : Instruction) : Type 0 where
@@ -74,7 +69,7 @@ nothing place c = (let h = c.1 in omega (arith, h))
 module _ (low : Lowered) (fun : LowFun) (labels : List StateType) (edges : List Edge) (typed : IsTypedFun low fun labels edges) where
   form_small : (at : ℕ) (instr : LowInstr) → slice_get fun.code at ≡ Some instr → (i : Instruction) × (instruction_of instr ≡ Some i) × AreSmall fun.places i
   form_small at instr e =
-      let h = inside fun.code at instr e in
+      let h = slice_get_within fun.code at instr e in
       let one_each = typed.one_each in
       let edge_each = typed.edge_each in
       let s = present typed.states at (omega (arith, h, one_each)) in
@@ -132,7 +127,7 @@ module _ (keep : SlotsKeep) (differ : SlotsDiffer) (typed : Typed) (homes : Assi
   fun_acceptable : (number : ℕ) (fun : LowFun) → slice_get typed.low.funs number ≡ Some fun → IsAcceptableAt typed homes number fun (λ at place. all_kept typed number at place ≡ true)
   unfolding all_kept places_of
   fun_acceptable number fun e =
-      let h = inside typed.low.funs number fun e in
+      let h = slice_get_within typed.low.funs number fun e in
       let states_each = is.states_each in
       let edges_each = is.edges_each in
       let labels = present typed.states number (omega (arith, h, states_each)) in

@@ -2,7 +2,7 @@
 use Rattle.std.proofs.Common.{◌≡◌, ◌∙◌, ℕ, zero, suc, ◌+◌, ◌-◌, ◌<◌, ◌≤◌, ◌==◌, ℤ, pos, List, [], ◌∷◌, ◌++◌, map, take, replicate, length, length-append, slice_get, slice_set, Bool as Flag, true, false, nat_lt, Option, Some, None, refl, sym, ap, subst, arith}
 use Rattle.std.specs.List.{AllZip}
 use Rattle.std.proofs.lemmas.Bool.{eqb-true}
-use Rattle.std.proofs.lemmas.List.{length-replicate}
+use Rattle.std.proofs.lemmas.List.{length-replicate, length-map}
 use Rattle.xan_io.specs.Outcome.{NoStore, Running}
 use Rattle.xan_seq.specs.Answers.{◌>>=◌}
 use Rattle.xan_seq.proofs.NumberTests.{less}
@@ -61,10 +61,6 @@ length_some : (vs : List Value) → length (map Some vs) ≡ length vs
 length_some [] = refl
 length_some (v ∷ vs) = ap suc (length_some vs)
 
-length_map : {A B : Type 0} (f : A → B) (xs : List A) → length (map f xs) ≡ length xs
-length_map f [] = refl
-length_map f (x ∷ xs) = ap suc (length_map f xs)
-
 take_shorter : {A : Type 0} (n : ℕ) (xs : List A) → length (take n xs) ≤ length xs
 take_shorter zero xs = omega arith
 take_shorter (suc n) [] = omega arith
@@ -95,7 +91,7 @@ module _ {L : Type 0} (recorder : Recorder L) (low : List LowFun) (program : cor
     fewer : length vs ≡ length f.params → length vs ≤ length f.kinds
     fewer same =
         let shorter = take_shorter (length f.params) f.kinds in
-        let long : length (take (length f.params) f.kinds) ≡ length f.params = ap length goes.rules.param_kinds ∙ length_map kind_of f.params in
+        let long : length (take (length f.params) f.kinds) ≡ length f.params = ap length goes.rules.param_kinds ∙ length-map f.params kind_of in
         omega (arith, same, shorter, long)
 
     pub body_goes : Arrives low st.units (config here st.printed flat 0 (places_of ws)) (Returning here base limit code) (body recorder call here.fun bound f vs st)

@@ -2,6 +2,7 @@
 use Rattle.std.proofs.Common.{◌≡◌, ◌∙◌, ℕ, zero, suc, ◌+◌, ◌<◌, ◌≤◌, ℤ, Bool, true, false, List, [], ◌∷◌, ◌++◌, length, map, take, drop, Option, Some, None, if◌then◌else◌, refl, sym, ap, subst, arith, length-append, take_all}
 use Rattle.std.proofs.lemmas.Bool.Decides.{nat_tests}
 use Rattle.std.proofs.lemmas.Option.{none-some, same_Some}
+use Rattle.std.proofs.lemmas.List.{length-map}
 use Rattle.operation_rules.specs.declared.operation.Operation.{Operation}
 use Rattle.operation_rules.specs.declared.operation.Operation.TheVariants.{Untuple}
 use Rattle.operation_rules.specs.Operations.{needs}
@@ -126,10 +127,6 @@ reach_drop (suc n) (place ∷ places) = (let rest = reach_drop n places in omega
 
 -- ---- how many instructions
 
-length_map : {A B : Type 0} (f : A → B) (xs : List A) → length (map f xs) ≡ length xs
-length_map f [] = refl
-length_map f (x ∷ xs) = ap suc (length_map f xs)
-
 moved_one : (b : Bool) (to from : ℕ) → b ≡ true → length (moved_if b to from) ≡ 1
 moved_one true to from e = refl
 moved_one false to from e = absurd (let bad : ⊥ = cc in bad)
@@ -203,8 +200,8 @@ module _ (homes : List ℕ) (count : ℕ) (slots : AreSlots homes count) where
       let all_read : take 8 form.reads ≡ form.reads = take_all 8 form.reads read in
       let ws = homes_of homes form.writes in
       let rs = homes_of homes form.reads in
-      let many_ws : length ws ≡ length form.writes = length_map (home_of homes) _ ∙ ap length all_written in
-      let many_rs : length rs ≡ length form.reads = length_map (home_of homes) _ ∙ ap length all_read in
+      let many_ws : length ws ≡ length form.writes = length-map _ (home_of homes) ∙ ap length all_written in
+      let many_rs : length rs ≡ length form.reads = length-map _ (home_of homes) ∙ ap length all_read in
       let one = few.few_written in
       let w = part.writes in
       let r = part.reads in
