@@ -18,7 +18,7 @@ enum Kind {
 }
 
 /// What is read, a text, the value where it has one, and how many bytes are left behind it or at the fault.
-const ROWS: [(Kind, &str, Option<i128>, usize); 60] = [
+const ROWS: &[(Kind, &str, Option<i128>, usize)] = &[
     (Kind::Number(0, 65535), "", None, 0),
     (Kind::Number(0, 65535), "x", None, 1),
     (Kind::Number(0, 65535), "+0", None, 2),
@@ -176,7 +176,7 @@ fn read_or_fault(kind: Kind, bytes: &[u8]) -> (Option<i128>, usize) {
 fn reads_numbers(rt: HostRuntime) {
     for (kind, text, value, left) in ROWS {
         assert!(rt;
-            read_or_fault(kind, text.as_bytes()) == (value, left),
+            read_or_fault(*kind, text.as_bytes()) == (*value, *left),
             "{text}"
         );
     }
@@ -197,7 +197,7 @@ fn prints(rt: HostRuntime) -> Result<(), Fail> {
 }
 
 /// A line, and how many bytes are left at its fault.
-const LINE_FAULTS: [(&str, usize); 40] = [
+const LINE_FAULTS: &[(&str, usize)] = &[
     ("", 0),
     ("A=int 1.", 8),
     ("9=int 1.", 8),
@@ -240,7 +240,7 @@ const LINE_FAULTS: [(&str, usize); 40] = [
     ("a=sum +1_+2_+3.", 4),
 ];
 
-const LINES: [(&str, usize, usize, usize); 6] = [
+const LINES: &[(&str, usize, usize, usize)] = &[
     ("a=int -9.", 1, 0, 1),
     ("a=int .", 1, 0, 0),
     ("funny:15/0/239=set ().", 5, 2, 0),
@@ -259,13 +259,13 @@ fn shape(alloc: Global, text: &str) -> Result<(usize, usize, usize, usize), Read
 fn reads_lines(rt: HostRuntime) {
     for (text, left) in LINE_FAULTS {
         assert!(rt;
-            matches!(shape(rt.alloc(), text), Err(ReadError::Fault(fault)) if fault.left == left),
+            matches!(shape(rt.alloc(), text), Err(ReadError::Fault(fault)) if fault.left == *left),
             "{text}"
         );
     }
     for (text, name, slots, values) in LINES {
         assert!(rt;
-            matches!(shape(rt.alloc(), text), Ok(found) if found == (name, slots, values, 0)),
+            matches!(shape(rt.alloc(), text), Ok(found) if found == (*name, *slots, *values, 0)),
             "{text}"
         );
     }
