@@ -8,8 +8,8 @@ use Rattle.state_types.specs.declared.types.Ty.{Ty}
 use Rattle.state_types.proofs.Thens.{then_ok, ok_same}
 use Rattle.three_address.specs.Liveness.{Live}
 use Rattle.three_address.specs.declared.instruction.LowInstr.{LowInstr}
-use Rattle.lowering.specs.Frames.{temporary}
-use Rattle.lowering.specs.ValueCode.{value_code}
+use Rattle.value_lowering.specs.Frames.{temporary}
+use Rattle.value_lowering.specs.ValueCode.{value_code}
 use Rattle.xan_lin.specs.declared.term.LimitKind.TheVariants as limit
 use Rattle.xan_seq.proofs.NumberTests.{equal}
 use Rattle.xan_seq.proofs.RisingKeys.{value-with}

@@ -1,7 +1,7 @@
 -- What is asked of the code of a statement, and of that of a block: from wherever it stands, it is typed between the states of elaboration.
 use Rattle.std.proofs.Common.{◌≡◌, ℕ, Bool as Truth, List, ◌++◌, Ok}
 use Rattle.state_types.specs.declared.state.StateType.{StateType}
-use Rattle.lowering.specs.Frames.{Frame}
+use Rattle.value_lowering.specs.Frames.{Frame}
 use Rattle.lowering.specs.StatementCode.{statement_code, statement_labels, block_code, block_labels}
 use Rattle.xanadu_tree.specs.BodyRules.{Point, completes, completes_all, IsStatement, AreStatements}
 use Rattle.xanadu_tree.specs.KindRules.{Setting}

@@ -2,7 +2,7 @@
 use Rattle.std.proofs.Common.{◌≡◌, ◌∙◌, ℕ, ◌+◌, Bool as Truth, true, false, List, [], ◌++◌, length, Ok, refl, sym, ap, subst, arith, append_assoc, append-nil}
 use Rattle.state_types.specs.declared.state.StateType.{StateType}
 use Rattle.state_types.proofs.Thens.{then_ok, ok_same}
-use Rattle.lowering.specs.Frames.{Frame, tuple_number}
+use Rattle.value_lowering.specs.Frames.{Frame, tuple_number}
 use Rattle.lowering.specs.StatementCode.{statement_code, statement_labels, statement_size, block_code, block_labels}
 use Rattle.lowering.proofs.CodeSizes.{statement_long}
 use Rattle.xanadu_tree.specs.BodyRules.{Point, completes, completes_all, MayFollow, AreStatements}

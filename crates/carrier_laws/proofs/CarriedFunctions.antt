@@ -6,10 +6,10 @@ use Rattle.std.proofs.lemmas.List.{append_cancel_right, length-map}
 use Rattle.std.proofs.lemmas.List.Elements.{All-nil, All-cons}
 use Rattle.std.proofs.lemmas.Option.{same_Some}
 use Rattle.lowering.specs.CodeBlocks.{Spaced, InBlocks}
-use Rattle.lowering.specs.Frames.{frame_of}
+use Rattle.value_lowering.specs.Frames.{frame_of}
 use Rattle.lowering.specs.Lowered.{leads, renumbered, places_reach, code_reach, labels_of, code_of, function_of, lowered}
 use Rattle.lowering.specs.StatementCode.{block_labels}
-use Rattle.lowering.proofs.KindsFound.{number_is_found}
+use Rattle.value_lowering.proofs.KindsFound.{number_is_found}
 use Rattle.lowering.proofs.LoweredFunctions.{places_counted, in_blocks}
 use Rattle.lowering.proofs.NumbersFound.{numbered_at}
 use Rattle.operation_rules.specs.Rules.{Setting}

@@ -8,8 +8,8 @@ use Rattle.operation_rules.specs.declared.operation.Operation.{Operation}
 use Rattle.state_types.specs.declared.state.StateType.{StateType}
 use Rattle.state_types.specs.declared.types.Ty.{Ty}
 use Rattle.three_address.specs.declared.instruction.LowInstr.{LowInstr}
-use Rattle.lowering.specs.Frames.{operand_place}
-use Rattle.lowering.specs.ValueCode.{operand_at}
+use Rattle.value_lowering.specs.Frames.{operand_place}
+use Rattle.value_lowering.specs.ValueCode.{operand_at}
 use Rattle.xanadu_tree.specs.Plain as core
 use Rattle.typed_core.specs.Constructs.{setting_of, type_by}
 use Rattle.typed_core.specs.Growth.{Later}

@@ -9,10 +9,10 @@ use Rattle.state_types.specs.declared.types.Ty.{Ty}
 use Rattle.state_types.proofs.Thens.{then_ok, ok_same}
 use Rattle.three_address.specs.declared.instruction.LowInstr.{LowInstr}
 use Rattle.three_address.specs.declared.instruction.Op22.TheVariants as op
-use Rattle.lowering.specs.Frames.{operand_place}
-use Rattle.lowering.specs.OneInstruction.{literal, truth, unary, binary, op_of, called, tuple_made, array_made, compared}
-use Rattle.lowering.specs.OneInstruction as one
-use Rattle.lowering.specs.ValueCode.{value_code, operand_at}
+use Rattle.value_lowering.specs.Frames.{operand_place}
+use Rattle.value_lowering.specs.OneInstruction.{literal, truth, unary, binary, op_of, called, tuple_made, array_made, compared}
+use Rattle.value_lowering.specs.OneInstruction as one
+use Rattle.value_lowering.specs.ValueCode.{value_code, operand_at}
 use Rattle.xanadu_tree.specs.KindRules.{HasKind, HaveKinds, AreNumbers, IsSomeLink, Setting as KindSetting}
 use Rattle.xanadu_tree.specs.declared.types.Kind.TheVariants as kind
 use Rattle.xanadu_tree.specs.Plain as core

@@ -5,7 +5,7 @@ use Rattle.state_types.specs.declared.state.StateType.{StateType}
 use Rattle.three_address.specs.Typing.{GoesTo}
 use Rattle.three_address.specs.declared.typed.Edge.{Edge}
 use Rattle.lowering.specs.Lowered.{number_of}
-use Rattle.lowering.specs.OneInstruction.{jump_if}
+use Rattle.value_lowering.specs.OneInstruction.{jump_if}
 use Rattle.xanadu_tree.specs.BodyRules.{Point, behind_block, IsClauseIfAny}
 use Rattle.xanadu_tree.specs.KindRules.{Setting}
 use Rattle.xanadu_tree.specs.declared.stmt.Clause.{Clause}

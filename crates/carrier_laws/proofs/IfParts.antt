@@ -7,8 +7,8 @@ use Rattle.state_types.specs.declared.state.StateType.{StateType}
 use Rattle.state_types.specs.declared.types.Ty.{Ty}
 use Rattle.three_address.specs.declared.instruction.LowInstr.{LowInstr}
 use Rattle.three_address.specs.declared.typed.Edge.{Edge}
-use Rattle.lowering.specs.Frames.{Frame}
-use Rattle.lowering.specs.OneInstruction.{jump, one_if, jump_if, label_if}
+use Rattle.value_lowering.specs.Frames.{Frame}
+use Rattle.value_lowering.specs.OneInstruction.{jump, one_if, jump_if, label_if}
 use Rattle.lowering.specs.StatementCode.{block_size, is_stated, block_code, block_labels, statement_code, statement_labels, first_at, second_at, meet_at, meet, jumps, unless}
 use Rattle.lowering.specs.TestCode.{test_code, test_labels}
 use Rattle.lowering.proofs.CodeSizes.{test_long, block_long}

@@ -6,7 +6,7 @@ use Rattle.three_address.specs.Typing.{GoesTo}
 use Rattle.three_address.specs.declared.instruction.LowInstr.{LowInstr}
 use Rattle.three_address.specs.declared.typed.Edge.{Edge}
 use Rattle.lowering.specs.Lowered.{number_of}
-use Rattle.lowering.specs.OneInstruction.{jump, jump_if}
+use Rattle.value_lowering.specs.OneInstruction.{jump, jump_if}
 use Rattle.typed_core.specs.States.{State}
 use Rattle.typed_core.specs.declared.note.Note.{Note}
 use Rattle.typed_core.specs.declared.note.Note.TheVariants as note

@@ -1,7 +1,7 @@
 -- An `if` is typed.
 use Rattle.std.proofs.Common.{◌≡◌, ◌∙◌, ℕ, Bool as Truth, List, [], ◌∷◌, ◌++◌, length, Option, Ok, subst, append_assoc}
 use Rattle.state_types.specs.declared.state.StateType.{StateType}
-use Rattle.lowering.specs.Frames.{Frame}
+use Rattle.value_lowering.specs.Frames.{Frame}
 use Rattle.lowering.specs.StatementCode.{statement_code, statement_labels}
 use Rattle.xanadu_tree.specs.BodyRules.{Point, completes, completes_all, IsStatement}
 use Rattle.xanadu_tree.specs.KindRules.{Setting}

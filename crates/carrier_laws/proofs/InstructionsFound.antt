@@ -7,7 +7,7 @@ use Rattle.operation_rules.specs.declared.operation.Operation.TheVariants as ope
 use Rattle.state_types.specs.declared.types.Ty.{Ty}
 use Rattle.three_address.specs.Instructions.{instruction_of}
 use Rattle.three_address.specs.declared.instruction.Op22.TheVariants as op
-use Rattle.lowering.specs.OneInstruction.{literal, truth, unary, binary, op_of, called, tuple_made, array_made, compared, in_order}
+use Rattle.value_lowering.specs.OneInstruction.{literal, truth, unary, binary, op_of, called, tuple_made, array_made, compared, in_order}
 use Rattle.xanadu_tree.specs.declared.expr.Op.{Op}
 use Rattle.xanadu_tree.specs.declared.expr.Op.TheVariants as arithmetic
 use Rattle.xanadu_tree.specs.declared.expr.Rel.{Rel}

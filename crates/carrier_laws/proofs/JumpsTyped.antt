@@ -11,7 +11,7 @@ use Rattle.three_address.specs.Liveness.{Live, Kept}
 use Rattle.three_address.specs.Typing.{Allows, GoesTo, ruled_in}
 use Rattle.three_address.specs.declared.typed.Edge.{Edge}
 use Rattle.lowering.specs.Lowered.{number_of}
-use Rattle.lowering.specs.OneInstruction.{jump}
+use Rattle.value_lowering.specs.OneInstruction.{jump}
 use Rattle.carrier_laws.proofs.ChainsTyped.{CodeAt, Stands, placed, found, writes_are}
 use Rattle.carrier_laws.proofs.GivenFollowed.{given_follow}
 use Rattle.carrier_laws.proofs.OperandsRun.{Walk}

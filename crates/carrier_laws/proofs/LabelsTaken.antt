@@ -2,7 +2,7 @@
 use Rattle.std.proofs.Common.{◌≡◌, ◌∙◌, ℕ, ◌+◌, Bool as Truth, true, false, not, List, [], ◌∷◌, ◌++◌, length, None, refl, sym, ap, subst, arith, append_assoc, append-nil}
 use Rattle.std.specs.Prelude.{option_to_list}
 use Rattle.std.proofs.lemmas.List.{length-append}
-use Rattle.lowering.specs.OneInstruction.{label_if}
+use Rattle.value_lowering.specs.OneInstruction.{label_if}
 use Rattle.lowering.specs.TestCode.{test_labels, parts_labels, past_parts, inner_on, turn, test_size}
 use Rattle.operation_rules.specs.Applied.{all_assuming}
 use Rattle.operation_rules.specs.Faults.{filled}

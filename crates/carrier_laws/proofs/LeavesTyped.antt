@@ -19,10 +19,10 @@ use Rattle.state_types.proofs.Thens.{then_ok, ok_same}
 use Rattle.three_address.specs.Instructions.{instruction_of}
 use Rattle.three_address.specs.declared.instruction.LowInstr.{LowInstr}
 use Rattle.three_address.specs.declared.instruction.Op22.TheVariants as op
-use Rattle.lowering.specs.Frames.{operand_place}
-use Rattle.lowering.specs.OneInstruction.{Aim, instr, in_order, comparison, that_is, truth_op, truth_branch}
+use Rattle.value_lowering.specs.Frames.{operand_place}
+use Rattle.value_lowering.specs.OneInstruction.{Aim, instr, in_order, comparison, that_is, truth_op, truth_branch}
 use Rattle.lowering.specs.TestCode.{leaf_code}
-use Rattle.lowering.specs.ValueCode.{operand_at}
+use Rattle.value_lowering.specs.ValueCode.{operand_at}
 use Rattle.xanadu_tree.specs.KindRules.{HasKind, Setting as KindSetting}
 use Rattle.xanadu_tree.specs.declared.expr.Rel.{Rel}
 use Rattle.xanadu_tree.specs.declared.expr.Rel.TheVariants as rel

@@ -10,9 +10,9 @@ use Rattle.operation_rules.specs.Rules as rules
 use Rattle.three_address.specs.Typing.{GoesTo}
 use Rattle.three_address.specs.declared.instruction.LowInstr.{LowInstr}
 use Rattle.three_address.specs.declared.typed.Edge.{Edge}
-use Rattle.lowering.specs.Frames.{Frame}
+use Rattle.value_lowering.specs.Frames.{Frame}
 use Rattle.lowering.specs.Lowered.{number_of}
-use Rattle.lowering.specs.OneInstruction.{jump, one_if, jump_if}
+use Rattle.value_lowering.specs.OneInstruction.{jump, one_if, jump_if}
 use Rattle.lowering.specs.StatementCode.{first_at, behind_loop, unless, statement_code, statement_labels, block_code, block_labels}
 use Rattle.lowering.specs.TestCode.{test_code, test_labels}
 use Rattle.lowering.proofs.CodeSizes.{test_long, block_long, long_jump}

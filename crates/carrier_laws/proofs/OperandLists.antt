@@ -13,9 +13,9 @@ use Rattle.xan_lin.specs.Subst.{zero_form}
 use Rattle.three_address.specs.declared.instruction.Op22.TheVariants as lop
 use Rattle.state_types.proofs.Thens.{then_ok, ok_same}
 use Rattle.three_address.specs.declared.instruction.LowInstr.{LowInstr}
-use Rattle.lowering.specs.Frames.{temporary, operand_place}
-use Rattle.lowering.specs.OneInstruction.{literal, binary, op_of, called, tuple_made}
-use Rattle.lowering.specs.ValueCode.{value_code, operand_at, operands_code, operand_places, links_code}
+use Rattle.value_lowering.specs.Frames.{temporary, operand_place}
+use Rattle.value_lowering.specs.OneInstruction.{literal, binary, op_of, called, tuple_made}
+use Rattle.value_lowering.specs.ValueCode.{value_code, operand_at, operands_code, operand_places, links_code}
 use Rattle.xanadu_tree.specs.declared.expr.Op.{Op}
 use Rattle.xanadu_tree.specs.declared.expr.Op.TheVariants as op
 use Rattle.xanadu_tree.specs.KindRules.{IsSomeLink}

@@ -8,8 +8,8 @@ use Rattle.state_types.specs.declared.state.StateType.{StateType}
 use Rattle.state_types.specs.declared.types.Ty.{Ty}
 use Rattle.state_types.proofs.Thens.{then_ok, ok_same}
 use Rattle.three_address.specs.declared.instruction.LowInstr.{LowInstr}
-use Rattle.lowering.specs.Frames.{temporary, operand_place}
-use Rattle.lowering.specs.ValueCode.{value_code, operand_code, operand_at}
+use Rattle.value_lowering.specs.Frames.{temporary, operand_place}
+use Rattle.value_lowering.specs.ValueCode.{value_code, operand_code, operand_at}
 use Rattle.xanadu_tree.specs.Plain as core
 use Rattle.typed_core.specs.Limits.{Walk as Limited}
 use Rattle.typed_core.specs.Operands.{operand}

@@ -22,10 +22,10 @@ use Rattle.three_address.specs.Liveness.{Live, Read, Kept}
 use Rattle.three_address.specs.Typing.{Allows, ruled_in, state_of, with_types}
 use Rattle.three_address.specs.declared.instruction.LowInstr.{LowInstr}
 use Rattle.three_address.specs.declared.typed.Edge.{Edge}
-use Rattle.lowering.specs.Frames.{temporary, operand_place}
-use Rattle.lowering.specs.OneInstruction.{literal, stored, printed, returned}
+use Rattle.value_lowering.specs.Frames.{temporary, operand_place}
+use Rattle.value_lowering.specs.OneInstruction.{literal, stored, printed, returned}
 use Rattle.lowering.specs.StatementCode.{return_code, store_code}
-use Rattle.lowering.specs.ValueCode.{operand_at}
+use Rattle.value_lowering.specs.ValueCode.{operand_at}
 use Rattle.xanadu_tree.specs.Plain as core
 use Rattle.typed_core.specs.Constructs.{setting_of, followed, types_by, state_by}
 use Rattle.typed_core.specs.Operands.{operand}

@@ -36,7 +36,7 @@ use Rattle.state_types.specs.Types.{same_kind}
 use Rattle.typed_core.specs.Limits.{within, Misfit, Walk as Limited}
 use Rattle.typed_core.specs.States.{State, like, given}
 use Rattle.typed_core.specs.Statements.{all_given}
-use Rattle.lowering.specs.OneInstruction.{parted}
+use Rattle.value_lowering.specs.OneInstruction.{parted}
 use Rattle.type_carrier.specs.CarriedValues.{Carried, plainly}
 use Rattle.type_carrier.specs.ProvedRows.{plain}
 use Rattle.carrier_laws.proofs.AssignmentsTyped.{Stepped}

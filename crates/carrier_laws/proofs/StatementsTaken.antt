@@ -1,7 +1,7 @@
 -- The same of statements: notes of states and of ways where control meets, and those of what stands between.
 use Rattle.std.proofs.Common.{◌≡◌, ◌∙◌, ℕ, suc, ◌+◌, Bool as Truth, true, false, ◌&&◌, ◌||◌, List, [], ◌∷◌, ◌++◌, length, Option, Some, None, refl, sym, ap, subst, arith, append_assoc, append-nil}
 use Rattle.std.proofs.lemmas.List.{length-append}
-use Rattle.lowering.specs.OneInstruction.{label_if}
+use Rattle.value_lowering.specs.OneInstruction.{label_if}
 use Rattle.lowering.specs.StatementCode.{statement_labels, block_labels, statement_size, first_at, second_at, meet_at, behind_loop, meet, is_stated}
 use Rattle.lowering.specs.TestCode.{test_labels}
 use Rattle.operation_rules.specs.declared.operation.Operation.TheVariants.{Untuple, Store, Print, Return}

@@ -9,10 +9,10 @@ use Rattle.state_types.specs.declared.types.Ty.TheVariants as ty
 use Rattle.state_types.proofs.Thens.{then_ok, ok_same}
 use Rattle.three_address.specs.Instructions.{AreDifferent}
 use Rattle.three_address.specs.declared.instruction.LowInstr.{LowInstr}
-use Rattle.lowering.specs.Frames.{Frame, temporary, tuple_number, operand_place}
-use Rattle.lowering.specs.OneInstruction.{parted, printed}
+use Rattle.value_lowering.specs.Frames.{Frame, temporary, tuple_number, operand_place}
+use Rattle.value_lowering.specs.OneInstruction.{parted, printed}
 use Rattle.lowering.specs.StatementCode.{statement_code, statement_labels, store_code, return_code}
-use Rattle.lowering.specs.ValueCode.{value_code, operand_at}
+use Rattle.value_lowering.specs.ValueCode.{value_code, operand_at}
 use Rattle.xanadu_tree.specs.BodyRules.{Point, IsStatement}
 use Rattle.xanadu_tree.specs.declared.types.Kind.TheVariants as kind
 use Rattle.xanadu_tree.specs.KindRules.{Setting, HasKind}

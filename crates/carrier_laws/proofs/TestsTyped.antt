@@ -12,7 +12,7 @@ use Rattle.three_address.specs.Typing.{GoesTo}
 use Rattle.three_address.specs.declared.instruction.LowInstr.{LowInstr}
 use Rattle.three_address.specs.declared.typed.Edge.{Edge}
 use Rattle.lowering.specs.Lowered.{number_of}
-use Rattle.lowering.specs.OneInstruction.{Aim, jump}
+use Rattle.value_lowering.specs.OneInstruction.{Aim, jump}
 use Rattle.lowering.specs.TestCode.{turned, past_parts, test_size, parts_size, test_code, parts_code, test_labels, parts_labels}
 use Rattle.lowering.proofs.CodeSizes.{test_long, parts_long}
 use Rattle.xanadu_tree.specs.KindRules.{Setting as KindSetting, IsTest, AreTests, AreSeveral}

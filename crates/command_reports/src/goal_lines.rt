@@ -6,7 +6,7 @@ ghost use Rattle.command_reports.specs.Answers as spec;
 ghost use Rattle.command_reports.specs.Answers.{numbered, limit_text, limit_word, place_text, verdict};
 
 use arrayvec::ArrayString;
-use expression_elaborator::most;
+use header_elaborator::most;
 use itoa::Buffer;
 use linear_solver::Answer;
 use xan_lin::{Form, LimitKind, Term};

@@ -11,9 +11,9 @@ use Rattle.typed_core.specs.Tests.{Sides, on_side, tested}
 use Rattle.xan_lin.specs.Linear.{Linear}
 use Rattle.xanadu_tree.specs.Plain as core
 use Rattle.xanadu_tree.specs.declared.stmt.Clause.{Clause}
-use Rattle.expression_elaborator.specs.Code.{Fails}
-use Rattle.expression_elaborator.specs.declared.error.Stop.{Stop}
-use Rattle.expression_elaborator.proofs.WalkParts.{then_ok, fails_then}
+use Rattle.header_elaborator.specs.Code.{Fails}
+use Rattle.header_elaborator.specs.declared.error.Stop.{Stop}
+use Rattle.header_elaborator.proofs.WalkParts.{then_ok, fails_then}
 use Rattle.constraint_elaborator.specs.BlockViews.{Turning, begun_if, begun_other, begun_turns, first_branch, left, second_branch, turn, turn_body}
 
 -- ---- if

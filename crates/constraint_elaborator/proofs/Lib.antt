@@ -1,10 +1,8 @@
 pub mod BranchEnds
 pub mod CompletingBlocks
-pub mod PlaceLists
+pub mod KeptPlaces
 pub mod Contexts
 pub mod Declared
-pub mod JoinFailures
+pub mod WaysIn
 pub mod BlockParts
 pub mod BlockSizes
-pub mod Marks
-pub mod RenewedMarks

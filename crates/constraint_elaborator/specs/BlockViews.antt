@@ -3,7 +3,7 @@ use Rattle.std.specs.Prelude.{ℕ, ◌||◌, List, Option, Ok}
 use Rattle.state_types.specs.Answers.{◌>>=◌}
 use Rattle.state_types.specs.declared.state.StateType.{StateType}
 use Rattle.state_types.specs.declared.types.Ty.{Ty}
-use Rattle.typed_core.specs.Joins.{Joint, changes_any, entered, entered_if, joined, stated}
+use Rattle.typed_core.specs.Joins.{Joint, changes_any, entered, entered_if, joined, stated, still_visible}
 use Rattle.typed_core.specs.Limits.{Walk}
 use Rattle.typed_core.specs.States.{Site, State, noting_state, point, resuming}
 use Rattle.typed_core.specs.Statements.{Branches, after_branches, block}
@@ -14,7 +14,7 @@ use Rattle.xanadu_tree.specs.Plain as core
 use Rattle.xanadu_tree.specs.declared.stmt.Clause.{Clause}
 use Rattle.constraint_elaborator.specs.declared.blocks.Ends as code_ends
 use Rattle.constraint_elaborator.specs.declared.blocks.Turns as code_turns
-use Rattle.constraint_elaborator.specs.JoinViews.{joint_of}
+use Rattle.join_elaborator.specs.JoinViews.{joint_of}
 
 -- ---- if
 
@@ -49,6 +49,10 @@ unfoldable pub second_branch : (on_true on_false : core.Stmts) → Option Clause
 second_branch on_true on_false join site at before one st = do
   two ← block site on_false st
   left on_true on_false join site at before one two
+
+-- a branch's end goes on
+abbrev pub gone_on : (before : List (ℕ × Ty)) → (end : StateType) → State → State
+gone_on before end st = let more = resuming end.ctx.rows (still_visible before end.places) st in noting_state more.ctx.rows more
 
 -- ---- while
 

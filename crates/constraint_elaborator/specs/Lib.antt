@@ -1,4 +1,2 @@
-pub mod Changed
-pub mod JoinViews
 pub mod BlockViews
 pub mod Top

@@ -2,10 +2,10 @@
 
 ghost use Rattle.std.specs.Prelude.{◌≡◌, ◌+◌, ◌≤◌, length, IfOk};
 ghost use Rattle.constraint_elaborator.specs.BlockViews as views;
-ghost use Rattle.constraint_elaborator.specs.Changed.{changed_by};
-ghost use Rattle.expression_elaborator.specs.Code.{Gives, Steps};
+ghost use Rattle.join_elaborator.specs.Changed.{changed_by};
+ghost use Rattle.header_elaborator.specs.Code.{Gives, Steps};
 ghost use Rattle.expression_elaborator.specs.Views.{IsSite, site_of, state_of};
-ghost use Rattle.constraint_elaborator.specs.JoinViews.{joint_of};
+ghost use Rattle.join_elaborator.specs.JoinViews.{joint_of};
 ghost use Rattle.typed_core.specs.Joins.{stated};
 ghost use Rattle.typed_core.specs.States.{point};
 ghost use Rattle.typed_core.specs.Statements as spec;
@@ -13,12 +13,12 @@ ghost use Rattle.xanadu_tree.specs.BodyRules as rules;
 ghost use Rattle.xanadu_tree.specs.Plain as core;
 ghost use Rattle.xanadu_tree.specs.PlainOf.{plain_block, plain_stmt, plain_test};
 
-use crate::changes::Blocks;
 use crate::entering::{enter, enter_if, go_on};
-use crate::joint::{Joint, joined};
 use crate::statements::{assign, call, give_back, print, split, store};
-use expression_elaborator::{Failure, Site, State, Stop, note_here, note_state, tested};
+use expression_elaborator::{Site, State, note_here, note_state, tested};
+use header_elaborator::{Failure, Stop};
 use index_sorts::Context;
+use join_elaborator::{Blocks, Joint, joined};
 use state_types::{Places, StateType};
 use xanadu_tree::{Clause, CoreStmt, Test};
 

@@ -2,7 +2,7 @@
 
 ghost use Rattle.std.specs.Prelude.{◌≡◌, ◌≤◌, suc, [], map, length, slice_get, true, All, IfOk};
 ghost use Rattle.std.specs.List.{enumerate_from, list_all};
-ghost use Rattle.expression_elaborator.specs.Code.{Gives};
+ghost use Rattle.header_elaborator.specs.Code.{Gives};
 ghost use Rattle.constraint_elaborator.specs.Top.{lists_behind, lists_of};
 ghost use Rattle.expression_elaborator.specs.Views.{state_of};
 ghost use Rattle.index_sorts.specs.Context.{NamesBelow};
@@ -18,9 +18,8 @@ ghost use Rattle.typed_core.specs.Strays.{form_below};
 ghost use Rattle.xanadu_tree.specs.PlainOf.{plain_fun};
 
 use crate::blocks::block;
-use expression_elaborator::{
-    Failure, Site, State, Stop, forms_below, hold, places_of, within, within_length,
-};
+use expression_elaborator::{Site, State};
+use header_elaborator::{Failure, Stop, forms_below, hold, places_of, within, within_length};
 use index_sorts::Context;
 use operation_rules::Setting;
 use state_types::{Places, Signature, Ty, TypeTable};
@@ -60,7 +59,7 @@ fn add_rows(ctx: &mut Context, mut rows: &[Form]) -> Result<(), Stop>
 }
 
 /// The context of so many variables, with these rows.
-#[tactic(auto, using(expression_elaborator::proofs::StrayTests::forms_named))]
+#[tactic(auto, using(header_elaborator::proofs::StrayTests::forms_named))]
 fn begin_context(alloc: Global, vars: u32, rows: &[Form]) -> Result<Context, Stop>
     requires few { vars ≤ 1024 }
     requires below { list_all (form_below vars) rows.now ≡ true }

@@ -1,15 +1,17 @@
 //! Ways into a joined state, and what follows branches.
 
 ghost use Rattle.std.specs.Prelude.{◌≡◌, ◌+◌, ◌≤◌, [], length, map, IfOk};
-ghost use Rattle.expression_elaborator.specs.Code.{Gives};
+ghost use Rattle.header_elaborator.specs.Code.{Gives};
 ghost use Rattle.expression_elaborator.specs.Views.{site_of, state_of};
-ghost use Rattle.constraint_elaborator.specs.JoinViews.{gone_on, joint_of};
+ghost use Rattle.constraint_elaborator.specs.BlockViews.{gone_on};
+ghost use Rattle.join_elaborator.specs.JoinViews.{joint_of};
 ghost use Rattle.state_types.specs.PlaceTypes.{type_at};
 ghost use Rattle.typed_core.specs.Joins as spec;
 ghost use Rattle.typed_core.specs.States as states;
 
-use crate::joint::Joint;
-use expression_elaborator::{Failure, Site, State, Stop, ask_all, index_of, note_here, type_of};
+use expression_elaborator::{Site, State, ask_all, note_here, type_of};
+use header_elaborator::{Failure, Stop, index_of};
+use join_elaborator::Joint;
 use state_types::{Found, Places, StateType, Ty, match_types};
 use std::alloc::Global;
 use typed_core::Note;

@@ -1,19 +1,14 @@
 //! Elaboration: from a core to its goals, with the types, signatures and notes that go with them, or the first limit that it passes.
 //!
 //! [`elaborate`] walks a core once and changes one context in place. What it makes is defined in `typed_core`; here is the code, and that it
-//! is exact. It stands on `expression_elaborator` for all within a statement, on `typed_core` for goals and notes, on `state_types` for
-//! matches, and on `xanadu_tree` for cores.
+//! is exact. It stands on `header_elaborator` for types and signatures, on `expression_elaborator` for all within a statement, on
+//! `join_elaborator` for joined states, on `state_types` for matches, and on `xanadu_tree` for cores.
 #![tactic(auto)]
 
 mod blocks;
 mod bodies;
-mod changes;
-mod clauses;
 mod entering;
 mod error;
-mod headers;
-mod joint;
-mod renewing;
 mod statements;
 mod walk;
 

@@ -2,14 +2,13 @@
 
 ghost use Rattle.std.specs.Prelude.{◌≡◌, ◌≤◌, length, IfOk};
 ghost use Rattle.std.specs.Option.{option_map};
-ghost use Rattle.expression_elaborator.specs.Code.{Gives};
+ghost use Rattle.header_elaborator.specs.Code.{Gives};
 ghost use Rattle.expression_elaborator.specs.Views.{IsSite, site_of, state_of};
 ghost use Rattle.typed_core.specs.Statements as spec;
 ghost use Rattle.xanadu_tree.specs.PlainOf.{plain_expr};
 
-use expression_elaborator::{
-    Failure, Site, State, Stop, as_tuple, operand, state_by, types_by, zero,
-};
+use expression_elaborator::{Site, State, operand, state_by, types_by, zero};
+use header_elaborator::{Failure, Stop, as_tuple};
 use operation_rules::Operation;
 use state_types::Ty;
 use xanadu_tree::CoreExpr;

@@ -1,7 +1,7 @@
 //! The call.
 
 ghost use Rattle.std.specs.Prelude.{◌≡◌, [], Ok};
-ghost use Rattle.expression_elaborator.specs.Code.{Gives};
+ghost use Rattle.header_elaborator.specs.Code.{Gives};
 ghost use Rattle.constraint_elaborator.specs.Top.{Elaborates, elaboration};
 ghost use Rattle.typed_core.specs.Goals.{elaborated};
 ghost use Rattle.xanadu_tree.specs.PlainOf.{plain_core};
@@ -9,8 +9,7 @@ ghost use Rattle.xanadu_tree.specs.Shaped.{Shaped};
 
 use crate::bodies::{Made, functions};
 use crate::error::ElabError;
-use crate::headers::{few_declarations, signatures, table_of};
-use expression_elaborator::Stop;
+use header_elaborator::{Stop, few_declarations, signatures, table_of};
 use state_types::{Signature, TypeTable};
 use std::alloc::Global;
 use typed_core::{

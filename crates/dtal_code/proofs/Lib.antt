@@ -8,3 +8,5 @@ mod AllocatedWords
 pub mod Appended
 mod WordBytes
 pub mod Codings
+pub mod NamedDeclarations
+pub mod TypesBelow

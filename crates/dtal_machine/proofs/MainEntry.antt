@@ -28,8 +28,9 @@ use Rattle.dtal_code.specs.ObjectCode.{Code, starts_from, start_or, start_of, pr
 use Rattle.dtal_code.specs.ObjectWords.{IsObject}
 use Rattle.dtal_code.specs.Runs.{empty_store, entry_state, entry_of, program_entry}
 use Rattle.dtal_code.specs.Verdicts.{asks}
+use Rattle.dtal_code.proofs.NamedDeclarations.{asked}
 use Rattle.dtal_safety.proofs.Lookups.{all_at}
-use Rattle.dtal_safety.proofs.NamedParts.{asked, functions_headers}
+use Rattle.dtal_safety.proofs.NamedParts.{functions_headers}
 use Rattle.dtal_machine.specs.declared.loading.LoadError.{LoadError}
 use Rattle.dtal_machine.specs.declared.loading.LoadError.TheVariants as load
 use Rattle.dtal_machine.specs.Loading.{IsProgramOf, IsEntrySignature, HasNoFault, begins, Loads}

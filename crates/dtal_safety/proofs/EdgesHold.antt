@@ -30,10 +30,11 @@ use Rattle.dtal_code.specs.Declarations.{state_of}
 use Rattle.dtal_code.specs.Passing.{is_listed, value_is_below, edge_verdict, asks_lines}
 use Rattle.dtal_code.specs.Verdicts.{asks, by_rule}
 use Rattle.dtal_code.specs.declared.refusal.Rule.TheVariants as rule
+use Rattle.dtal_code.proofs.NamedDeclarations.{asked, test_all}
+use Rattle.dtal_code.proofs.TypesBelow.{ruled_ok}
 use Rattle.dtal_safety.specs.Fitting.{word_at, Holds}
 use Rattle.dtal_safety.proofs.LinesHold.{all_entailed}
-use Rattle.dtal_safety.proofs.NamedParts.{asked, test_all}
-use Rattle.dtal_safety.proofs.ProperStates.{IsProper, ruled_ok}
+use Rattle.dtal_safety.proofs.ProperStates.{IsProper}
 
 -- ---- variables that are not listed
 

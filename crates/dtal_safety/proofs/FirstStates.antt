@@ -37,12 +37,12 @@ use Rattle.dtal_code.specs.Verdicts.{asks, found}
 use Rattle.dtal_code.specs.declared.program.DtalProgram.{DtalProgram}
 use Rattle.dtal_code.specs.declared.program.Function.{Function}
 use Rattle.dtal_code.specs.declared.refusal.Rule.TheVariants as rule
+use Rattle.dtal_code.proofs.NamedDeclarations.{asked, test_all}
 use Rattle.dtal_safety.specs.Fitting.{AllWait, StateFits}
 use Rattle.dtal_safety.proofs.EdgesHold.{one_value}
 use Rattle.dtal_safety.proofs.FunctionsBegin.{places_count, begun_holds, own_taken}
 use Rattle.dtal_safety.proofs.LocatedStates.{IsBegun, function_is, function_begins}
 use Rattle.dtal_safety.proofs.Lookups.{zip_lengths}
-use Rattle.dtal_safety.proofs.NamedParts.{asked, test_all}
 
 -- ---- the store of an array of numbers
 

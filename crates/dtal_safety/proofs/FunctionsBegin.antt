@@ -22,8 +22,8 @@ use Rattle.operation_rules.proofs.RuleFacts.{OkHolds, assuming_grows, filled_ok}
 use Rattle.dtal_code.specs.Declarations.{stated, numbered, state_of, state_with, first_state}
 use Rattle.dtal_code.specs.Places.{places_of}
 use Rattle.dtal_code.specs.Verdicts.{by_rule}
+use Rattle.dtal_code.proofs.TypesBelow.{ruled_ok}
 use Rattle.dtal_safety.specs.Fitting.{word_at, Holds}
-use Rattle.dtal_safety.proofs.ProperStates.{ruled_ok}
 
 -- ---- the context
 

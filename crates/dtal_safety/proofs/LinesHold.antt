@@ -16,7 +16,7 @@ use Rattle.proof_lines.proofs.Exact.{Decides-checked}
 use Rattle.proof_lines.proofs.LineSoundness.{proved-entailed}
 use Rattle.dtal_code.specs.Passing.{unknown, is_proof, are_proved, asks_lines}
 use Rattle.dtal_code.specs.declared.refusal.Rule.TheVariants as rule
-use Rattle.dtal_safety.proofs.NamedParts.{asked}
+use Rattle.dtal_code.proofs.NamedDeclarations.{asked}
 
 proof_is : (answer : Result (Unit {0}) BadLine) → is_proof answer ≡ true → answer ≡ Ok tt
 proof_is (Ok tt) e = refl

@@ -2,7 +2,7 @@
 use Rattle.std.proofs.Common.{◌≡◌, ℕ, zero, suc, ◌+◌, ◌<◌, List, [], ◌∷◌, ◌++◌, map, length, Some, refl, ◌∙◌, ap, subst, arith}
 use Rattle.std.specs.Prelude.{slice_get}
 use Rattle.std.specs.List.{All, AllZip}
-use Rattle.std.proofs.lemmas.List.Elements.{All-nil, All-cons, All-head, All-tail}
+use Rattle.std.proofs.lemmas.List.Elements.{All-head, All-tail}
 use Rattle.std.proofs.lemmas.Option.{none-some, same_Some}
 
 -- what an element has
@@ -73,7 +73,3 @@ pub map_back : {A B : Type 0} (f : A → B) (xs : List A) (n : ℕ) (y : B) → 
 map_back f [] n y e = absurd (none-some y e)
 map_back f (x ∷ xs) zero y e = record { value = x; there = refl; is = same_Some (f x) y e }
 map_back f (x ∷ xs) (suc n) y e = (let rest = map_back f xs n y e in record { value = rest.value; there = rest.there; is = rest.is })
-
-pub all_map : {A B : Type 0} (P : B → Type 0) (f : A → B) (xs : List A) → All (λ x. P (f x)) xs → All P (map f xs)
-all_map P f [] all = All-nil P
-all_map P f (x ∷ xs) all = All-cons P (f x) (map f xs) (All-head (λ y. P (f y)) x xs all) (all_map P f xs (All-tail (λ y. P (f y)) x xs all))

@@ -31,11 +31,12 @@ use Rattle.dtal_code.specs.Instructions.{Instruction}
 use Rattle.dtal_code.specs.Machine.{State}
 use Rattle.dtal_code.specs.Passing.{read_types}
 use Rattle.dtal_code.specs.Running.{store_of, words_in}
+use Rattle.dtal_code.proofs.TypesBelow.{there_below}
 use Rattle.dtal_safety.specs.Fitting.{Holds}
 use Rattle.dtal_safety.proofs.InstructionParts.{goes_elsewhere}
 use Rattle.dtal_safety.proofs.LinesHold.{demands_hold}
 use Rattle.dtal_safety.proofs.PlacesHold.{words_read}
-use Rattle.dtal_safety.proofs.ProperStates.{IsProper, IsRuled, IsEdged, there_below}
+use Rattle.dtal_safety.proofs.ProperStates.{IsProper, IsRuled, IsEdged}
 
 -- ---- branches: their rule changes no context
 

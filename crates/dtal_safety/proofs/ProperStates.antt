@@ -1,18 +1,15 @@
 -- The state types of an accepted program name only their own variables, which are few, and those of the function's signature are among them.
-use Rattle.std.proofs.Common.{◌≡◌, ◌∙◌, ℕ, suc, ◌+◌, ◌≤◌, ◌==◌, cond, List, [], ◌∷◌, ◌++◌, get_or, length, map, nat_lt, Bool as Test, true, false, Option, Some, None, Result, Ok, Err, refl, sym, ap, subst, arith}
+use Rattle.std.proofs.Common.{◌≡◌, ◌∙◌, ℕ, ◌+◌, ◌≤◌, cond, List, [], ◌∷◌, get_or, map, nat_lt, Bool as Test, true, false, Option, Some, None, Result, Ok, Err, refl, sym, ap, subst, arith}
 use Rattle.std.specs.Prelude.{◌&&◌, nat_le}
 use Rattle.std.specs.List.{All, AllZip}
 use Rattle.std.proofs.lemmas.Bool.{leb-true, and_parts}
 use Rattle.std.proofs.lemmas.Bool.Decides.{nat_tests}
-use Rattle.std.proofs.lemmas.List.Elements.{All-nil, All-cons, All-head, All-tail, All-append, All-push}
+use Rattle.std.proofs.lemmas.List.Elements.{All-nil, All-cons, All-head, All-tail, All-append}
 use Rattle.index_sorts.specs.Context.{IndexContext, new_context, fresh_from, with_variables}
-use Rattle.index_sorts.specs.Known.{knows, with_row}
 use Rattle.index_sorts.specs.declared.error.ContextError.{ContextError}
 use Rattle.index_sorts.specs.declared.error.ContextError.TheVariants as context_error
 use Rattle.xan_lin.specs.Linear.{Linear, NamesBelow}
-use Rattle.xan_lin.specs.declared.term.TooLarge.{TooLarge}
 use Rattle.proof_lines.specs.declared.line.Line.{Line}
-use Rattle.state_types.specs.PlaceTypes.{type_at, with_type}
 use Rattle.state_types.specs.Sound.{NamesOwn}
 use Rattle.state_types.specs.Tables.{IsClosed}
 use Rattle.state_types.specs.Types.{TypeBelow}
@@ -20,21 +17,18 @@ use Rattle.state_types.specs.declared.closed.Packed.{Packed}
 use Rattle.state_types.specs.declared.closed.Signature.{Signature}
 use Rattle.state_types.specs.declared.state.StateType.{StateType}
 use Rattle.state_types.specs.declared.types.Ty.{Ty}
-use Rattle.state_types.proofs.Edges.{type_at-all}
 use Rattle.state_types.proofs.FormNames.{below-more}
-use Rattle.state_types.proofs.RowNames.{type-more}
 use Rattle.state_types.proofs.Thens.{then_ok, ok_same}
-use Rattle.operation_rules.specs.Applied.{Ruled, widened, assuming, all_assuming, all_given, all_there, applied, named, ruled}
-use Rattle.operation_rules.specs.Faults.{Ruling, needed, filled, or_fault}
+use Rattle.operation_rules.specs.Applied.{Ruled, widened, all_assuming, all_given, all_there, applied, named, ruled}
+use Rattle.operation_rules.specs.Faults.{needed, filled}
 use Rattle.operation_rules.specs.Named.{IsNamed, IsTypeNamed}
 use Rattle.operation_rules.specs.Rules.{Setting, rule as rule_for}
 use Rattle.operation_rules.specs.Sides.{side}
 use Rattle.operation_rules.specs.Sound.{IsHeader}
-use Rattle.operation_rules.specs.declared.error.Fault.TheVariants.{NoPlace}
 use Rattle.operation_rules.specs.declared.operation.Operation.{Operation}
 use Rattle.operation_rules.specs.declared.operation.Operation.TheVariants.{Literal, Truth, Move, Add, Sub, Mul, Div, Mod, Compare, Branch, BranchTruth, Jump, Call, Return, Length, Load, Store, New, Tuple, Untuple, Print}
 use Rattle.operation_rules.specs.declared.rule.Rule.{Rule}
-use Rattle.operation_rules.proofs.RuleFacts.{parts_of, or_fault_ok, filled_ok}
+use Rattle.operation_rules.proofs.RuleFacts.{parts_of, filled_ok}
 use Rattle.operation_rules.proofs.RuleNames.{rule_names, sides_named}
 use Rattle.operation_rules.proofs.RowsNamed.{rows_named as assumed_named}
 use Rattle.dtal_code.specs.Acceptance.{IsLabel, CodeStands, CodeEnds, CodeGoesOn, BlocksStand, BlocksEnd, BlocksGoOn}
@@ -47,51 +41,13 @@ use Rattle.dtal_code.specs.declared.program.Block.{Block}
 use Rattle.dtal_code.specs.declared.program.LabelState.{LabelState}
 use Rattle.dtal_code.specs.declared.refusal.Rule as rules
 use Rattle.dtal_code.specs.declared.refusal.Rule.TheVariants as rule
-use Rattle.dtal_safety.proofs.NamedParts.{asked, rows_named, entries_named}
+use Rattle.dtal_code.proofs.NamedDeclarations.{asked, rows_named, entries_named, numbered_named}
+use Rattle.dtal_code.proofs.TypesBelow.{ruled_ok, there_below, all_written, types_more, given_below, all_assumed}
 
 pub record IsProper (own : ℕ) (state : StateType) : Type 0 where
   pub own_vars : own ≤ state.ctx.vars
   pub few : state.ctx.vars ≤ 1024
   pub names : NamesOwn state
-
--- ---- answers
-
-pub ruled_ok : {A : Type 0} (m : Ruling A) (x : A) → by_rule m ≡ Ok x → m ≡ Ok x
-ruled_ok (Ok y) x e = cc
-ruled_ok (Err fault) x e = absurd (let bad : ⊥ = cc in bad)
-
--- ---- rows of a context
-
-row_by : (b c : Test) (ctx more : IndexContext) (row : Linear)
-    → cond b (let r : Result IndexContext ContextError = Ok ctx in r) (cond c (Err context_error.Rows) (Ok (record ctx { rows = ctx.rows ++ row ∷ [] }))) ≡ Ok more
-    → All (NamesBelow ctx.vars) ctx.rows → NamesBelow ctx.vars row → (more.vars ≡ ctx.vars) × All (NamesBelow ctx.vars) more.rows
-row_by true c ctx more row e all h =
-    let same = ok_same ctx more e in (ap (λ z. z.vars) (sym same), subst (λ (z : IndexContext). All (NamesBelow ctx.vars) z.rows) same all)
-row_by false true ctx more row e all h = absurd (let bad : ⊥ = cc in bad)
-row_by false false ctx more row e all h =
-    let same = ok_same _ more e in
-    (ap (λ z. z.vars) (sym same), subst (λ (z : IndexContext). All (NamesBelow ctx.vars) z.rows) same (All-push (NamesBelow ctx.vars) ctx.rows row all h))
-
-row_named : (ctx more : IndexContext) (row : Linear) → with_row ctx row ≡ Ok more → All (NamesBelow ctx.vars) ctx.rows → NamesBelow ctx.vars row
-    → (more.vars ≡ ctx.vars) × All (NamesBelow ctx.vars) more.rows
-unfolding with_row
-row_named ctx more row e all h = row_by (knows ctx row) (nat_le 512 (length ctx.rows)) ctx more row e all h
-
-assuming_named : (row : Result Linear TooLarge) (ctx more : IndexContext) → assuming row ctx ≡ Ok more → All (NamesBelow ctx.vars) ctx.rows → IsNamed ctx.vars row
-    → (more.vars ≡ ctx.vars) × All (NamesBelow ctx.vars) more.rows
-assuming_named (Ok row) ctx more e all h = row_named ctx more row e all h
-assuming_named (Err why) ctx more e all h =
-    let same = ok_same ctx more e in (ap (λ z. z.vars) (sym same), subst (λ (z : IndexContext). All (NamesBelow ctx.vars) z.rows) same all)
-
-pub all_assumed : (rows : List (Result Linear TooLarge)) (n : ℕ) (ctx more : IndexContext) → ctx.vars ≡ n → all_assuming rows ctx ≡ Ok more → All (NamesBelow n) ctx.rows
-    → All (IsNamed n) rows → (more.vars ≡ n) × All (NamesBelow n) more.rows
-unfolding all_assuming
-all_assumed [] n ctx more is e all h =
-    let same = ok_same ctx more e in (ap (λ z. z.vars) (sym same) ∙ is, subst (λ (z : IndexContext). All (NamesBelow n) z.rows) same all)
-all_assumed (row ∷ rows) n ctx more is e all h =
-    let s = then_ok (assuming row ctx) _ more e in
-    let one = assuming_named row ctx s.value s.first (subst (λ k. All (NamesBelow k) ctx.rows) (sym is) all) (subst (λ k. IsNamed k row) (sym is) (All-head (IsNamed n) row rows h)) in
-    all_assumed rows n s.value more (one.0 ∙ is) s.second (subst (λ k. All (NamesBelow k) s.value.rows) is one.1) (All-tail (IsNamed n) row rows h)
 
 -- ---- what functions and labels begin with
 
@@ -121,8 +77,9 @@ unfolding stated
 stated_named vars rows ctx e all =
     let s = then_ok (new_context vars) _ ctx e in
     let new = new_vars (nat_lt 1024 vars) vars s.value refl s.first in
-    let grown = all_assumed (map Ok rows) vars s.value ctx new.0 s.second (subst (λ (rs : List Linear). All (NamesBelow vars) rs) (sym new.1) (All-nil (NamesBelow vars))) (rows_ok vars rows all) in
-    record { is = grown.0; few = subst (λ k. k ≤ 1024) (new.0 ∙ sym grown.0) new.2; named = grown.1 }
+    let none = subst (λ (rs : List Linear). All (NamesBelow vars) rs) (sym new.1) (All-nil (NamesBelow vars)) in
+    let grown = all_assumed (NamesBelow vars) (IsNamed vars) (λ row h. h) (map Ok rows) s.value ctx s.second none (rows_ok vars rows all) in
+    record { is = grown.vars ∙ new.0; few = subst (λ k. k ≤ 1024) (sym grown.vars) new.2; named = grown.rows }
 
 state_named : (own vars : ℕ) (rows : List Linear) (places : List (ℕ × Ty)) (state : StateType) → own ≤ vars → All (NamesBelow vars) rows
     → All (λ e. TypeBelow vars e.1) places → state_with vars rows places ≡ Ok state → IsProper own state
@@ -136,13 +93,6 @@ state_named own vars rows places state le all below e =
       few = is.few;
       names = record { rows = subst (λ k. All (NamesBelow k) ctx.rows) (sym is.is) is.named; places = subst (λ k. All (λ (e : ℕ × Ty). TypeBelow k e.1) places) (sym is.is) below };
     })
-
-numbered_named : (vars place : ℕ) (types : List Ty) → All (TypeBelow vars) types → All (λ e. TypeBelow vars e.1) (numbered place types)
-unfolding numbered
-numbered_named vars place [] all = All-nil (λ (e : ℕ × Ty). TypeBelow vars e.1)
-numbered_named vars place (t ∷ types) all =
-    All-cons (λ (e : ℕ × Ty). TypeBelow vars e.1) (place, t) (numbered (suc place) types) (All-head (TypeBelow vars) t types all)
-    (numbered_named vars (suc place) types (All-tail (TypeBelow vars) t types all))
 
 pub first_proper : (sig : Signature) (state : StateType) → IsHeader sig → first_state sig ≡ Ok state → IsProper sig.vars state
 first_proper sig state header e =
@@ -170,60 +120,10 @@ labels_proper table sig (block ∷ blocks) [] all = absurd all
 labels_proper table sig (block ∷ blocks) (state ∷ labels) all =
     All-cons (IsProper sig.vars) state labels (label_proper table sig block.state state all.0.is) (labels_proper table sig blocks labels all.1)
 
--- ---- types of places
-
-pub place_below : (n place : ℕ) (places : List (ℕ × Ty)) (t : Ty) → type_at place places ≡ Some t → All (λ e. TypeBelow n e.1) places → TypeBelow n t
-place_below n place places t e all = type_at-all (λ (x : ℕ × Ty). TypeBelow n x.1) place places t all e
-
-pub there_below : (n : ℕ) (places : List (ℕ × Ty)) (reads : List ℕ) (types : List Ty) → all_there (map (λ place. type_at place places) reads) ≡ Ok types
-    → All (λ e. TypeBelow n e.1) places → All (TypeBelow n) types
-unfolding all_there
-there_below n places [] types e all = subst (λ ts. All (TypeBelow n) ts) (ok_same [] types e) (All-nil (TypeBelow n))
-there_below n places (place ∷ reads) types e all =
-    let s = then_ok (or_fault NoPlace (type_at place places)) _ types e in
-    let t = then_ok (all_there (map (λ p. type_at p places) reads)) _ types s.second in
-    subst (λ ts. All (TypeBelow n) ts) (ok_same (s.value ∷ t.value) types t.second)
-    (All-cons (TypeBelow n) s.value t.value (place_below n place places s.value (or_fault_ok NoPlace (type_at place places) s.value s.first) all)
-    (there_below n places reads t.value t.first all))
-
-written_by : (n : ℕ) (entry : ℕ × Ty) (new : ℕ × Ty) (places later : List (ℕ × Ty)) (a b : Test) → TypeBelow n new.1 → TypeBelow n entry.1 → All (λ e. TypeBelow n e.1) places
-    → All (λ e. TypeBelow n e.1) later → All (λ e. TypeBelow n e.1) (cond a (entry ∷ later) (cond b (new ∷ places) (new ∷ entry ∷ places)))
-written_by n entry new places later true b h g all more = All-cons (λ e. TypeBelow n e.1) entry later g more
-written_by n entry new places later false true h g all more = All-cons (λ e. TypeBelow n e.1) new places h all
-written_by n entry new places later false false h g all more =
-    All-cons (λ e. TypeBelow n e.1) new (entry ∷ places) h (All-cons (λ e. TypeBelow n e.1) entry places g all)
-
-written_below : (n place : ℕ) (t : Ty) (places : List (ℕ × Ty)) → TypeBelow n t → All (λ e. TypeBelow n e.1) places → All (λ e. TypeBelow n e.1) (with_type place t places)
-written_below n place t [] h all = All-cons (λ e. TypeBelow n e.1) (place, t) [] h (All-nil (λ e. TypeBelow n e.1))
-written_below n place t (entry ∷ places) h all =
-    written_by n entry (place, t) places (with_type place t places) (nat_lt entry.0 place) (entry.0 == place) h (All-head (λ e. TypeBelow n e.1) entry places all)
-    (All-tail (λ e. TypeBelow n e.1) entry places all) (written_below n place t places h (All-tail (λ e. TypeBelow n e.1) entry places all))
-
-all_written : (n : ℕ) (writes : List ℕ) (types : List Ty) (places : List (ℕ × Ty)) → All (TypeBelow n) types → All (λ e. TypeBelow n e.1) places
-    → All (λ e. TypeBelow n e.1) (with_types writes types places)
-unfolding with_types
-all_written n [] types places h all = all
-all_written n (place ∷ writes) [] places h all = all
-all_written n (place ∷ writes) (t ∷ types) places h all =
-    all_written n writes types (with_type place t places) (All-tail (TypeBelow n) t types h) (written_below n place t places (All-head (TypeBelow n) t types h) all)
-
-types_more : (m n : ℕ) (places : List (ℕ × Ty)) → m ≤ n → All (λ e. TypeBelow m e.1) places → All (λ e. TypeBelow n e.1) places
-types_more m n places le all = λ k d h. type-more m n _ le (all k d h)
+-- ---- an operation that goes on
 
 rows_more : (m n : ℕ) (rows : List Linear) → m ≤ n → All (NamesBelow m) rows → All (NamesBelow n) rows
 rows_more m n rows le all = λ k d h. below-more m n (get_or rows k d) le (all k d h)
-
--- ---- an operation that goes on
-
-given_below : (n : ℕ) (given : List (Result Ty TooLarge)) (types : List Ty) → all_given given ≡ Ok types → All (IsTypeNamed n) given → All (TypeBelow n) types
-unfolding all_given
-given_below n [] types e all = subst (λ ts. All (TypeBelow n) ts) (ok_same [] types e) (All-nil (TypeBelow n))
-given_below n (t ∷ given) types e all =
-    let s = then_ok t _ types e in
-    let r = then_ok (all_given given) _ types s.second in
-    subst (λ ts. All (TypeBelow n) ts) (ok_same (s.value ∷ r.value) types r.second)
-    (All-cons (TypeBelow n) s.value r.value (subst (λ m. IsTypeNamed n m) s.first (All-head (IsTypeNamed n) t given all))
-    (given_below n given r.value r.first (All-tail (IsTypeNamed n) t given all)))
 
 fresh_few : (many : Test) (ctx : IndexContext) (n first : ℕ) → nat_lt 1024 n ≡ many → cond many (let r : Result ℕ ContextError = Err context_error.Variables in r) (Ok ctx.vars) ≡ Ok first
     → n ≤ 1024
@@ -277,16 +177,17 @@ module _ (st : Setting) (closed : All IsClosed st.table) where
       let assumed = assumed_named st i.operation is.types n is.r closed is.is below in
       let parts = parts_of is.r state.ctx given is.does in
       let few = applied_few is.r state.ctx given is.does in
-      let grown = all_assumed is.r.assumed (n + is.r.fresh) (with_variables state.ctx is.r.fresh) given.ctx refl parts.assumed
+      let grown = all_assumed (NamesBelow (n + is.r.fresh)) (IsNamed (n + is.r.fresh)) (λ row h. h) is.r.assumed (with_variables state.ctx is.r.fresh) given.ctx parts.assumed
       (rows_more n (n + is.r.fresh) state.ctx.rows (omega arith) proper.names.rows) assumed in
+      let vars : given.ctx.vars ≡ n + is.r.fresh = grown.vars in
       let own = proper.own_vars in
-      let wide = types_more n given.ctx.vars state.places (omega (arith, grown.0)) proper.names.places in
-      let types = given_below given.ctx.vars is.r.given given.types parts.given (subst (λ k. All (IsTypeNamed k) is.r.given) (sym grown.0) names.given) in
+      let wide = types_more n given.ctx.vars state.places (omega (arith, vars)) proper.names.places in
+      let types = given_below given.ctx.vars is.r.given given.types parts.given (subst (λ k. All (IsTypeNamed k) is.r.given) (sym vars) names.given) in
       record {
-        own_vars = omega (arith, grown.0, own);
-        few = omega (arith, grown.0, few);
+        own_vars = omega (arith, vars, own);
+        few = omega (arith, vars, few);
         names = record {
-          rows = subst (λ k. All (NamesBelow k) given.ctx.rows) (sym grown.0) grown.1;
+          rows = subst (λ k. All (NamesBelow k) given.ctx.rows) (sym vars) grown.rows;
           places = all_written given.ctx.vars i.writes given.types state.places types wide;
         };
       }
@@ -367,15 +268,17 @@ goes_to_proper st labels state next i values by proper e =
     let is = edged_is st labels state next i values by e in
     let n = state.ctx.vars in
     let below = there_below n state.places i.reads is.types is.there proper.names.places in
-    let grown = all_assumed (side false i.operation is.types) n state.ctx is.left_over refl is.is_left proper.names.rows (sides_named n false i.operation is.types below) in
+    let grown = all_assumed (NamesBelow n) (IsNamed n) (λ row h. h) (side false i.operation is.types) state.ctx is.left_over is.is_left proper.names.rows
+    (sides_named n false i.operation is.types below) in
+    let vars = grown.vars in
     let own = proper.own_vars in
     let few = proper.few in
     subst (λ x. IsProper st.own.vars x) is.is_next (record {
-      own_vars = omega (arith, grown.0, own);
-      few = omega (arith, grown.0, few);
+      own_vars = omega (arith, vars, own);
+      few = omega (arith, vars, few);
       names = record {
-        rows = subst (λ k. All (NamesBelow k) is.left_over.rows) (sym grown.0) grown.1;
-        places = types_more n is.left_over.vars state.places (omega (arith, grown.0)) proper.names.places;
+        rows = subst (λ k. All (NamesBelow k) is.left_over.rows) (sym vars) grown.rows;
+        places = types_more n is.left_over.vars state.places (omega (arith, vars)) proper.names.places;
       };
     })
 

@@ -13,9 +13,10 @@ use Rattle.dtal_code.specs.Declarations.{state_of}
 use Rattle.dtal_code.specs.Machine.{Activation, moved_on}
 use Rattle.dtal_code.specs.Passing.{with_types}
 use Rattle.dtal_code.specs.Running.{with_words}
+use Rattle.dtal_code.proofs.TypesBelow.{place_below}
 use Rattle.dtal_safety.specs.Fitting.{Located, Holds, Stands, Waits, AllWait}
 use Rattle.dtal_safety.proofs.PlacesHold.{AreTyped, words_written}
-use Rattle.dtal_safety.proofs.ProperStates.{IsProper, place_below}
+use Rattle.dtal_safety.proofs.ProperStates.{IsProper}
 
 -- ---- a store that grows
 

@@ -1,10 +1,7 @@
-pub mod VerdictParts
+pub mod RefusedPlaces
 pub mod AloneTurns
 pub mod AddedNames
 pub mod SignaturesTurns
-pub mod StepsSame
 pub mod WalksSame
 pub mod DeclaredNames
-pub mod StandingStates
-pub mod PlacesTurns
 pub mod VerdictLaws

@@ -11,7 +11,7 @@ use Rattle.dtal_code.specs.declared.program.Function.{Function}
 use Rattle.dtal_code.specs.declared.refusal.Refusal.{Refusal}
 use Rattle.dtal_code.specs.declared.refusal.Where.TheVariants as where_is
 use Rattle.dtal_verifier.specs.Code.{Refuses}
-use Rattle.dtal_verifier.specs.Steps.{signature_by}
+use Rattle.dtal_verifier.specs.Walks.{signature_by}
 use Rattle.dtal_verifier.specs.Views.{IsAdded}
 use Rattle.dtal_verifier.specs.declared.error.VerifyError.{VerifyError}
 use Rattle.dtal_verifier.specs.declared.error.VerifyError.TheVariants as verify_error

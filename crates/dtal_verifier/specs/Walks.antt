@@ -1,22 +1,33 @@
 -- The walk over the places of a program, without the states that it finds.
-use Rattle.std.specs.Prelude.{ℕ, suc, ◌+◌, List, [], ◌∷◌, ◌++◌, drop, length, Result, Ok, Err}
+use Rattle.std.specs.Prelude.{ℕ, suc, ◌+◌, Bool as Truth, ◌&&◌, List, [], ◌∷◌, ◌++◌, drop, length, Result, Ok, Err}
 use Rattle.state_types.specs.Answers.{◌>>=◌}
+use Rattle.state_types.specs.declared.closed.Packed.{Packed}
 use Rattle.state_types.specs.declared.state.StateType.{StateType}
 use Rattle.operation_rules.specs.Rules.{Setting}
 use Rattle.dtal_code.specs.declared.instruction.Instr.{Instr}
 use Rattle.dtal_code.specs.declared.program.Block.{Block}
 use Rattle.dtal_code.specs.declared.program.Function.{Function}
 use Rattle.dtal_code.specs.declared.program.DtalProgram.{DtalProgram}
+use Rattle.dtal_code.specs.declared.refusal.Rule.TheVariants as rule
 use Rattle.dtal_code.specs.declared.refusal.Where.TheVariants as where_is
-use Rattle.dtal_code.specs.Declarations.{table_of, setting_of, program_verdict, first_state}
+use Rattle.dtal_code.specs.Declarations.{table_of, setting_of, types_exist, are_alone, names_own, are_few, program_verdict, first_state}
 use Rattle.dtal_code.specs.Passing.{instr_verdict}
 use Rattle.dtal_code.specs.Refusing.{types_walked, signatures_walked, labels_walked}
-use Rattle.dtal_code.specs.Verdicts.{Walk, at_place}
+use Rattle.dtal_code.specs.Verdicts.{Verdict, Walk, asks, at_place}
 
 -- whatever the value is
 abbrev pub forgotten : {A E : Type 0} → Result A E → Result (Unit {0}) E
 forgotten (Ok x) = Ok tt
 forgotten (Err error) = Err error
+
+-- What is asked of a signature, by whether the function's name is new.
+unfoldable pub signature_by : Truth → List Packed → Function → Verdict (Unit {0})
+signature_by is_new table fun = do
+  other ← asks is_new rule.Name
+  exist ← asks (types_exist table (fun.sig.result ∷ fun.sig.params)) rule.NoType
+  alone ← asks (are_alone 0 fun.sig.vars fun.sig.params && are_alone fun.sig.vars fun.sig.result_vars (fun.sig.result ∷ [])) rule.Alone
+  named ← asks (names_own fun.sig) rule.Form
+  asks (are_few fun.sig.vars fun.sig.rows && are_few fun.sig.result_vars fun.sig.result_rows) rule.Size
 
 -- instructions from a number on, where the first of them stands in this state
 unfoldable pub code_passed : Setting → List StateType → (fun at : ℕ) → StateType → List Instr → Walk (Unit {0})

@@ -3,24 +3,50 @@
 ghost use Rattle.std.specs.Prelude.{◌≡◌, ◌≤◌, ◌+◌, ◌∷◌, drop, length, map, All, IfOk};
 ghost use Rattle.dtal_code.specs.Declarations as declarations;
 ghost use Rattle.dtal_code.specs.Grammar.{IsCode, IsFunction, IsInstr, size_of};
+ghost use Rattle.dtal_code.specs.Passing.{instr_verdict};
 ghost use Rattle.dtal_code.specs.Refusing.{labels_walked};
+ghost use Rattle.dtal_code.specs.Verdicts.{at_place};
+ghost use Rattle.dtal_code.specs.declared.refusal.Where.TheVariants as where_is;
 ghost use Rattle.dtal_verifier.specs.Code.{Passes};
-ghost use Rattle.dtal_verifier.specs.Proving.{IsReady};
-ghost use Rattle.dtal_verifier.specs.Views.{AreDeclared, IsDeclared, IsSite, IsStanding, table_with};
+ghost use Rattle.dtal_verifier.specs.Views.{AreDeclared, IsDeclared, table_with};
 ghost use Rattle.dtal_verifier.specs.Walks as spec;
+ghost use Rattle.instruction_checks.specs.Proving.{IsReady};
+ghost use Rattle.instruction_checks.specs.Views.{IsSite, IsStanding};
 ghost use Rattle.operation_rules.specs.Settings.{setting_of};
 
-use crate::error::VerifyError;
-use crate::instruction::check_instruction_at;
-use crate::lines::{Checker, first_checker};
+use crate::error::{VerifyError, locate};
 use crate::signatures::signatures_of;
-use crate::site::Site;
 use crate::states::{begin_block, begin_function};
 use crate::types::table_of;
-use dtal_code::{Block, DtalProgram, Function, Instr};
+use dtal_code::{Block, DtalProgram, Function, Instr, Where};
+use instruction_checks::{Checker, Site, check_instruction, first_checker};
 use operation_rules::Setting;
 use state_types::{Packed, Signature, StateType, TypeTable};
 use std::alloc::Global;
+
+// What is asked of an instruction, told with its number.
+#[tactic(auto, using(crate::proofs::RefusedPlaces::place_fails))]
+fn check_instruction_at(
+    site: &Site<'_>,
+    checker: &mut Checker,
+    at: u32,
+    instr: &Instr,
+    state: &mut StateType,
+) -> Result<(), VerifyError>
+    requires site { IsSite site.now }
+    requires ready { IsReady checker.old }
+    requires instr { IsInstr instr.now }
+    requires standing { IsStanding site.now.setting.own.now.vars state.old }
+    ensures gone { Passes (λ _. state.new) result
+        (at_place (where_is.Instr site.now.fun at) (instr_verdict (setting_of site.now.setting) site.now.labels.now state.old instr.now)) }
+    ensures standing { IfOk result (λ _. IsStanding site.now.setting.own.now.vars state.new) }
+    ensures ready { IfOk result (λ _. IsReady checker.new) }
+{
+    match check_instruction(site, checker, instr, state) {
+        Ok(()) => Ok(()),
+        Err(broken) => Err(locate(broken, Where::Instr(site.fun, at))),
+    }
+}
 
 // The instructions of a block.
 #[tactic(auto, unfolding(crate::specs::Walks::code_passed))]

@@ -6,18 +6,18 @@ ghost use Rattle.dtal_code.specs.Declarations as spec;
 ghost use Rattle.dtal_code.specs.Refusing.{signatures_walked};
 ghost use Rattle.dtal_code.specs.Verdicts.{at_place};
 ghost use Rattle.dtal_code.specs.declared.refusal.Where.TheVariants as where_is;
-ghost use Rattle.dtal_verifier.specs.Code.{Gives, Passes};
-ghost use Rattle.dtal_verifier.specs.Steps.{signature_by};
+ghost use Rattle.dtal_verifier.specs.Code.{Passes};
 ghost use Rattle.dtal_verifier.specs.Views.{table_with};
+ghost use Rattle.dtal_verifier.specs.Walks.{signature_by};
+ghost use Rattle.instruction_checks.specs.Code.{Gives};
 
 use crate::alone::are_alone;
-use crate::asking::asks;
-use crate::error::{Broken, VerifyError};
+use crate::error::{VerifyError, locate};
 use crate::function_names::FunctionNames;
-use crate::names::{rows_below, type_below, types_below};
 use crate::presence::{type_exists, types_exist};
 use crate::types::are_few;
 use dtal_code::{DtalProgram, Function, Rule, Where};
+use instruction_checks::{Broken, asks, rows_below, type_below, types_below};
 use state_types::{Packed, Signature, Ty};
 use std::alloc::Global;
 use xan_lin::Memory;
@@ -58,7 +58,7 @@ fn is_few(sig: &Signature) -> bool
 }
 
 // What is asked of a function's signature.
-#[tactic(auto, unfolding(crate::specs::Steps::signature_by))]
+#[tactic(auto, unfolding(crate::specs::Walks::signature_by))]
 fn check_signature(types: &[Packed], is_new: bool, fun: &Function) -> Result<(), Broken>
     ensures { Gives (λ _. tt) result (signature_by is_new (table_with types.now) fun.now) }
 {
@@ -70,7 +70,7 @@ fn check_signature(types: &[Packed], is_new: bool, fun: &Function) -> Result<(),
 }
 
 // The same of the function of a number among all, told with it.
-#[tactic(auto, using(crate::proofs::VerdictParts::place_fails))]
+#[tactic(auto, using(crate::proofs::RefusedPlaces::place_fails))]
 fn check_signature_at(
     types: &[Packed],
     is_new: bool,
@@ -81,7 +81,7 @@ fn check_signature_at(
 {
     match check_signature(types, is_new, fun) {
         Ok(()) => Ok(()),
-        Err(broken) => Err(broken.at(Where::Signature(number))),
+        Err(broken) => Err(locate(broken, Where::Signature(number))),
     }
 }
 
@@ -183,12 +183,12 @@ fn check_main(program: &DtalProgram) -> Result<(), Broken>
 }
 
 /// The same, told with the place.
-#[tactic(auto, using(crate::proofs::VerdictParts::place_fails))]
+#[tactic(auto, using(crate::proofs::RefusedPlaces::place_fails))]
 pub(crate) fn check_program(program: &DtalProgram) -> Result<(), VerifyError>
     ensures { Passes (λ _. tt) result (at_place where_is.Program (spec.program_verdict program.now)) }
 {
     match check_main(program) {
         Ok(()) => Ok(()),
-        Err(broken) => Err(broken.at(Where::Program)),
+        Err(broken) => Err(locate(broken, Where::Program)),
     }
 }

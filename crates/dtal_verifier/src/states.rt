@@ -4,8 +4,10 @@ ghost use Rattle.std.specs.Prelude.{◌≡◌, ◌≤◌, ◌&&◌, All, IfOk, O
 ghost use Rattle.dtal_code.specs.Declarations as spec;
 ghost use Rattle.dtal_code.specs.Verdicts.{at_place};
 ghost use Rattle.dtal_code.specs.declared.refusal.Where.TheVariants as where_is;
-ghost use Rattle.dtal_verifier.specs.Code.{Gives, Passes};
-ghost use Rattle.dtal_verifier.specs.Views.{IsStanding, table_with};
+ghost use Rattle.dtal_verifier.specs.Code.{Passes};
+ghost use Rattle.dtal_verifier.specs.Views.{table_with};
+ghost use Rattle.instruction_checks.specs.Code.{Gives};
+ghost use Rattle.instruction_checks.specs.Views.{IsStanding};
 ghost use Rattle.operation_rules.specs.Answers as rules;
 ghost use Rattle.operation_rules.specs.Applied.{all_assuming};
 ghost use Rattle.operation_rules.specs.Faults.{filled};
@@ -13,12 +15,11 @@ ghost use Rattle.operation_rules.specs.Sound.{IsHeader};
 ghost use Rattle.xan_lin.specs.Linear.{NamesBelow};
 ghost use Rattle.index_sorts.specs.Known.{with_row};
 
-use crate::asking::asks;
-use crate::error::{Broken, VerifyError};
-use crate::names::{entries_below, rows_below};
+use crate::error::{VerifyError, locate};
 use crate::presence::entries_exist;
 use crate::types::are_few;
 use dtal_code::{Block, LabelState, Rule, Where};
+use instruction_checks::{Broken, asks, entries_below, rows_below};
 use operation_rules::RuleError;
 use state_types::{Context, Packed, Places, Signature, StateType, Ty};
 use std::alloc::Global;
@@ -61,7 +62,7 @@ fn stated(alloc: Global, vars: u32, rows: &[Form]) -> Result<Context, RuleError>
 }
 
 // The state type in which these rows hold and places have these types.
-#[tactic(auto, using(crate::proofs::VerdictParts::ruled_fails), unfolding(dtal_code::specs::Declarations::state_with))]
+#[tactic(auto, using(instruction_checks::proofs::VerdictParts::ruled_fails), unfolding(dtal_code::specs::Declarations::state_with))]
 fn state_with(alloc: Global, vars: u32, rows: &[Form], places: Places) -> Result<StateType, Broken>
     requires { All (NamesBelow vars) rows.now }
     ensures stated { Gives (λ state. state) result (spec.state_with vars rows.now places) }
@@ -102,7 +103,7 @@ fn first_state(alloc: Global, sig: &Signature) -> Result<StateType, Broken>
 }
 
 /// The same, told with the function's number.
-#[tactic(auto, using(crate::proofs::VerdictParts::place_fails))]
+#[tactic(auto, using(crate::proofs::RefusedPlaces::place_fails))]
 pub(crate) fn begin_function(
     alloc: Global,
     sig: &Signature,
@@ -115,7 +116,7 @@ pub(crate) fn begin_function(
 {
     match first_state(alloc, sig) {
         Ok(state) => Ok(state),
-        Err(broken) => Err(broken.at(Where::Signature(number))),
+        Err(broken) => Err(locate(broken, Where::Signature(number))),
     }
 }
 
@@ -167,7 +168,7 @@ fn label_state(
 }
 
 /// The same, told with the function's number and the label's.
-#[tactic(auto, using(crate::proofs::VerdictParts::place_fails))]
+#[tactic(auto, using(crate::proofs::RefusedPlaces::place_fails))]
 pub(crate) fn begin_block(
     alloc: Global,
     types: &[Packed],
@@ -181,6 +182,6 @@ pub(crate) fn begin_block(
 {
     match label_state(alloc, types, sig, block) {
         Ok(state) => Ok(state),
-        Err(broken) => Err(broken.at(Where::Label(fun, label))),
+        Err(broken) => Err(locate(broken, Where::Label(fun, label))),
     }
 }

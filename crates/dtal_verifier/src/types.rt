@@ -5,16 +5,16 @@ ghost use Rattle.dtal_code.specs.Declarations as spec;
 ghost use Rattle.dtal_code.specs.Refusing.{types_walked};
 ghost use Rattle.dtal_code.specs.Verdicts.{at_place};
 ghost use Rattle.dtal_code.specs.declared.refusal.Where.TheVariants as where_is;
-ghost use Rattle.dtal_verifier.specs.Code.{Gives, Passes};
+ghost use Rattle.dtal_verifier.specs.Code.{Passes};
 ghost use Rattle.dtal_verifier.specs.Views.{table_with};
+ghost use Rattle.instruction_checks.specs.Code.{Gives};
 ghost use Rattle.state_types.specs.Tables.{IsClosed};
 
 use crate::alone::are_alone;
-use crate::asking::asks;
-use crate::error::{Broken, VerifyError};
-use crate::names::{rows_below, types_below};
+use crate::error::{VerifyError, locate};
 use crate::presence::types_exist;
 use dtal_code::{Rule, Where};
+use instruction_checks::{Broken, asks, rows_below, types_below};
 use state_types::{Packed, TypeTable};
 use std::alloc::Global;
 use xan_lin::{Form, Memory};
@@ -53,13 +53,13 @@ fn check_type(types: &[Packed], packed: &Packed) -> Result<(), Broken>
 }
 
 // The same, told with the type's number.
-#[tactic(auto, using(crate::proofs::VerdictParts::place_fails))]
+#[tactic(auto, using(crate::proofs::RefusedPlaces::place_fails))]
 fn check_type_at(types: &[Packed], packed: &Packed, number: u32) -> Result<(), VerifyError>
     ensures { Passes (λ _. tt) result (at_place (where_is.Types number) (spec.packed_verdict (table_with types.now) packed.now)) }
 {
     match check_type(types, packed) {
         Ok(()) => Ok(()),
-        Err(broken) => Err(broken.at(Where::Types(number))),
+        Err(broken) => Err(locate(broken, Where::Types(number))),
     }
 }
 

@@ -10,8 +10,9 @@ use Rattle.xan_lin.proofs.TermSums.{IsRising-negated}
 use Rattle.proof_lines.proofs.Opposites.{opposite_is}
 use Rattle.linear_solver.specs.declared.answer.Answer.{Answer}
 use Rattle.linear_solver.specs.declared.answer.Answer.TheVariants.{Unproved, Limit}
-use Rattle.linear_solver.specs.declared.step.Step.{Step}
-use Rattle.linear_solver.specs.Systems.{Row, tight, settle, limited, next_rows}
+use Rattle.solver_rows.specs.declared.step.Step.{Step}
+use Rattle.solver_rows.specs.SystemRows.{Row, tight}
+use Rattle.linear_solver.specs.Systems.{settle, limited, next_rows}
 use Rattle.linear_solver.specs.Choosing.{look_at}
 use Rattle.linear_solver.specs.Numbering.{numbered}
 use Rattle.linear_solver.specs.Tracing.{traced}

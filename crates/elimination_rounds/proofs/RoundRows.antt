@@ -9,11 +9,12 @@ use Rattle.xan_lin.specs.declared.term.LimitKind.{LimitKind}
 use Rattle.xan_lin.specs.declared.term.LimitKind.TheVariants as limit
 use Rattle.proof_lines.specs.Rows.{divides, divided_term, cut_of}
 use Rattle.proof_lines.specs.Check.{is_positive}
-use Rattle.linear_solver.specs.declared.step.Step.{Step}
-use Rattle.linear_solver.specs.Divisors.{divisor}
-use Rattle.linear_solver.specs.Systems.{Row, linear_of, row_of, divided_by, tight, same_terms, holds, placed, settle, reduced_onto, coefficient, with_sign, sum_of_two, sum_source, size, limited, bounded, with_sum, and_then, with_sums, with_all_sums, next_rows}
+use Rattle.solver_rows.specs.declared.step.Step.{Step}
+use Rattle.solver_rows.specs.Divisors.{divisor}
+use Rattle.solver_rows.specs.SystemRows.{Row, linear_of, row_of, divided_by, tight, same_terms, holds, coefficient, sum_of_two, sum_source, size}
+use Rattle.linear_solver.specs.Systems.{placed, settle, reduced_onto, with_sign, limited, bounded, with_sum, and_then, with_sums, with_all_sums, next_rows}
 use Rattle.linear_solver.specs.Numbering.{steps_with, line_with, at_line, numbered}
-use Rattle.linear_solver.proofs.CommonDivisors.{divisor-divides}
+use Rattle.solver_rows.proofs.CommonDivisors.{divisor-divides}
 
 -- the terms of each row are so
 abbrev pub AreAll : (List Term → Type 0) → List Row → Type 0

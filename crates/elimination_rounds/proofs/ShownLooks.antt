@@ -4,10 +4,11 @@ use Rattle.xan_lin.specs.declared.term.LimitKind.{LimitKind}
 use Rattle.xan_lin.specs.declared.term.LimitKind.TheVariants as limit
 use Rattle.proof_lines.specs.Variables.{is_among}
 use Rattle.proof_lines.proofs.Different.{equals_itself}
-use Rattle.linear_solver.specs.declared.step.Step.{Step}
+use Rattle.solver_rows.specs.declared.step.Step.{Step}
 use Rattle.linear_solver.specs.declared.answer.Answer.{Answer}
 use Rattle.linear_solver.specs.declared.answer.Answer.TheVariants.{Unproved, Limit}
-use Rattle.linear_solver.specs.Systems.{Row, coefficient, limited, with_sign}
+use Rattle.solver_rows.specs.SystemRows.{Row, coefficient}
+use Rattle.linear_solver.specs.Systems.{limited, with_sign}
 use Rattle.linear_solver.specs.Choosing.{choice_of, candidate, is_before, better, best_from, refuted_by, taken, refuted_or, look_at}
 use Rattle.linear_solver.specs.Elimination.{ended, after_look}
 use Rattle.elimination_rounds.specs.Unbounded.{Refutes, IsSpent, Takes}

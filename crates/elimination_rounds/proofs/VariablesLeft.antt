@@ -7,8 +7,9 @@ use Rattle.xan_lin.specs.Terms.{IsRising}
 use Rattle.proof_lines.specs.Variables.{is_among}
 use Rattle.proof_lines.proofs.Different.{same_number}
 use Rattle.proof_lines.proofs.Proper.{both, join}
-use Rattle.linear_solver.specs.Systems.{Row, coefficient, first_by, second_by, sum_of_two, size, next_rows}
-use Rattle.linear_solver.specs.declared.step.Step.{Step}
+use Rattle.solver_rows.specs.SystemRows.{Row, coefficient, first_by, second_by, sum_of_two, size}
+use Rattle.linear_solver.specs.Systems.{next_rows}
+use Rattle.solver_rows.specs.declared.step.Step.{Step}
 use Rattle.linear_solver.specs.Numbering.{numbered}
 use Rattle.elimination_rounds.proofs.ZeroCoefficients.{Lacks, lacks-cut, lacks-sum, lacks-taken}
 use Rattle.elimination_rounds.proofs.RoundRows.{AreAll, has_positive, has_negative, has_none, all-each, numbered-all, next-all}

@@ -17,9 +17,9 @@ use Rattle.proof_lines.specs.Variables.{with_terms}
 use Rattle.proof_lines.proofs.Different.{same_number}
 use Rattle.proof_lines.proofs.Proper.{placed-with_terms, proper-cut}
 use Rattle.proof_lines.proofs.Quotients.{floor-zero}
-use Rattle.linear_solver.specs.Divisors.{gcd}
-use Rattle.linear_solver.specs.Systems.{coefficient, first_by, second_by}
-use Rattle.linear_solver.proofs.Euclid.{gcd_is}
+use Rattle.solver_rows.specs.Divisors.{gcd}
+use Rattle.solver_rows.specs.SystemRows.{coefficient, first_by, second_by}
+use Rattle.solver_rows.proofs.Euclid.{gcd_is}
 
 -- the terms rise, and the variable has no coefficient in them
 pub record Lacks (v : ℕ) (ts : List Term) : Type 0 where

@@ -6,9 +6,10 @@ use Rattle.xan_lin.specs.declared.term.LimitKind.TheVariants as limit
 use Rattle.xan_lin.specs.declared.term.TooLarge.{TooLarge}
 use Rattle.linear_solver.specs.declared.answer.Answer.{Answer}
 use Rattle.linear_solver.specs.declared.answer.Answer.TheVariants.{Unproved, Limit}
-use Rattle.linear_solver.specs.declared.step.Step.{Step}
-use Rattle.linear_solver.specs.Systems.{Row, limited, next_rows}
-use Rattle.linear_solver.specs.declared.source.Look.TheVariants.{Refuted, Spent, Take}
+use Rattle.solver_rows.specs.declared.step.Step.{Step}
+use Rattle.solver_rows.specs.SystemRows.{Row}
+use Rattle.linear_solver.specs.Systems.{limited, next_rows}
+use Rattle.linear_solver.specs.declared.choose.Look.TheVariants.{Refuted, Spent, Take}
 use Rattle.linear_solver.specs.Choosing.{look_at}
 use Rattle.linear_solver.specs.Numbering.{numbered}
 use Rattle.linear_solver.specs.Tracing.{traced}

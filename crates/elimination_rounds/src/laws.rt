@@ -3,7 +3,7 @@
 ghost use Rattle.elimination_rounds.specs.Unbounded.{IsAnswer};
 ghost use Rattle.linear_solver.specs.Elimination.{refutation};
 ghost use Rattle.linear_solver.specs.declared.answer.Answer.{Answer};
-ghost use Rattle.linear_solver.specs.declared.step.Step.{Step};
+ghost use Rattle.solver_rows.specs.declared.step.Step.{Step};
 ghost use Rattle.std.specs.List.{All};
 ghost use Rattle.std.specs.Prelude.{◌≡◌, List, Result};
 ghost use Rattle.xan_lin.specs.Linear.{Linear, IsForm};

@@ -1,5 +1,2 @@
-pub mod WalkParts
 pub mod ContextVariables
-pub mod StrayTests
-pub mod Lists
-pub mod FormFacts
+pub mod BranchSides

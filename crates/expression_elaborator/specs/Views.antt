@@ -4,10 +4,6 @@ use Rattle.operation_rules.specs.Settings.{HasFew, setting_of}
 use Rattle.operation_rules.specs.Sound.{IsSetting}
 use Rattle.typed_core.specs.States.{Site, State}
 use Rattle.typed_core.specs.Tests.{Sides}
-use Rattle.xanadu_tree.specs.Plain as core
-use Rattle.xanadu_tree.specs.PlainOf.{plain_expr}
-use Rattle.xanadu_tree.specs.declared.expr.CoreExpr.{CoreExpr}
-use Rattle.xanadu_tree.specs.declared.expr.Op.{Op}
 use Rattle.expression_elaborator.specs.declared.state.Site as code_site
 use Rattle.expression_elaborator.specs.declared.state.State as code_state
 use Rattle.expression_elaborator.specs.declared.tests.Sides as code_sides
@@ -30,10 +26,6 @@ sides_of sides after = record { on_true = sides.on_true.rows; on_false = sides.o
 pub record AreWithin (sides : code_sides.Sides) (vars : ℕ) : Type 0 where
   pub on_true : sides.on_true.vars ≤ vars
   pub on_false : sides.on_false.vars ≤ vars
-
--- an operator of a chain, with its right operand and its place
-abbrev pub link_of : Op × CoreExpr × ℕ → Op × core.Expr × ℕ
-link_of l = (l.0, plain_expr l.1, l.2)
 
 -- nothing is known on one side that is not known on the other
 abbrev pub same_sides : State → Sides

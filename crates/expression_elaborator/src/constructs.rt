@@ -2,7 +2,7 @@
 
 ghost use Rattle.std.specs.Prelude.{◌≡◌, ◌+◌, ◌≤◌, true, Ok, IfOk, All};
 ghost use Rattle.std.specs.List.{list_all};
-ghost use Rattle.expression_elaborator.specs.Code.{Gives, Steps, and_then};
+ghost use Rattle.header_elaborator.specs.Code.{Gives, Steps, and_then};
 ghost use Rattle.expression_elaborator.specs.Views.{IsSite, site_of, state_of};
 ghost use Rattle.operation_rules.specs.Answers as rules;
 ghost use Rattle.operation_rules.specs.Named.{IsNamed};
@@ -14,9 +14,8 @@ ghost use Rattle.typed_core.specs.States.{in_ctx};
 ghost use Rattle.typed_core.specs.Strays.{type_below};
 
 use crate::demands::ask_at;
-use crate::error::Stop;
 use crate::state::{Site, State};
-use crate::strays::{hold, types_below};
+use header_elaborator::{Stop, hold, types_below};
 use index_sorts::Context;
 use operation_rules::{
     Operation, Rule, RuleError, assume_all, assumed_rows_are_named, rule_of, types_given, widen,
@@ -25,7 +24,7 @@ use state_types::Ty;
 use std::alloc::Global;
 
 /// The types name index variables that are there.
-#[tactic(auto, using(crate::proofs::StrayTests::types_named))]
+#[tactic(auto, using(header_elaborator::proofs::StrayTests::types_named))]
 pub(crate) fn check_types(types: &[Ty], vars: u32) -> Result<(), Stop>
     ensures held { Gives (λ _. tt) result (held (list_all (type_below vars) types.now)) }
     ensures below { IfOk result (λ _. All (TypeBelow vars) types.now) }
@@ -46,7 +45,7 @@ fn follow(alloc: Global, rule: &Rule, ctx: &mut Context) -> Result<Vec<Ty>, Rule
 }
 
 /// The rule of an operation at a site. Its rows name present and fresh variables.
-#[tactic(auto, using(crate::proofs::WalkParts::ruled_fails))]
+#[tactic(auto, using(header_elaborator::proofs::WalkParts::ruled_fails))]
 fn rule_at(site: &Site<'_>, op: &Operation, types: &[Ty], ctx: &Context) -> Result<Rule, Stop>
     requires site { IsSite site.now }
     requires below { All (TypeBelow ctx.now.vars) types.now }
@@ -58,7 +57,7 @@ fn rule_at(site: &Site<'_>, op: &Operation, types: &[Ty], ctx: &Context) -> Resu
 }
 
 /// The rule is followed, and there are no fewer variables.
-#[tactic(auto, using(crate::proofs::WalkParts::ruled_fails, crate::proofs::ContextVariables::followed_grows))]
+#[tactic(auto, using(header_elaborator::proofs::WalkParts::ruled_fails, crate::proofs::ContextVariables::followed_grows))]
 fn follow_at(site: &Site<'_>, rule: &Rule, ctx: &mut Context) -> Result<Vec<Ty>, Stop>
     requires { All (IsNamed (ctx.old.vars + rule.now.fresh)) rule.now.assumed }
     ensures followed { Gives (λ types. (types.items, ctx.new)) result (by_rule (spec.followed rule.now ctx.old)) }

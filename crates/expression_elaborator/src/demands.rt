@@ -6,8 +6,8 @@ ghost use Rattle.index_sorts.specs.Known.{knows};
 ghost use Rattle.typed_core.specs.Constructs.{asking};
 ghost use Rattle.typed_core.specs.States as spec;
 
-use crate::error::Failure;
 use crate::state::{Site, State, over};
+use header_elaborator::Failure;
 use index_sorts::Context;
 use state_types::StateType;
 use typed_core::{GoalAt, Note};

@@ -1,8 +1,9 @@
 //! Expressions: the type of each, and what it demands.
 
 ghost use Rattle.std.specs.Prelude.{◌≡◌, ◌≤◌, [], map, None, IfOk};
-ghost use Rattle.expression_elaborator.specs.Code.{Steps};
-ghost use Rattle.expression_elaborator.specs.Views.{IsSite, link_of, site_of, state_of};
+ghost use Rattle.header_elaborator.specs.Code.{Steps};
+ghost use Rattle.expression_elaborator.specs.Views.{IsSite, site_of, state_of};
+ghost use Rattle.header_elaborator.specs.Links.{link_of};
 ghost use Rattle.operation_rules.specs.declared.operation.Operation.TheVariants.{Literal};
 ghost use Rattle.typed_core.specs.Constructs.{type_by};
 ghost use Rattle.typed_core.specs.Operands as spec;
@@ -11,8 +12,8 @@ ghost use Rattle.xan_lin.specs.Subst.{zero_form};
 ghost use Rattle.xanadu_tree.specs.PlainOf.{plain_expr, to_exprs, to_links};
 
 use crate::constructs::type_by;
-use crate::error::Stop;
 use crate::state::{Site, State, type_of};
+use header_elaborator::Stop;
 use operation_rules::Operation;
 use state_types::Ty;
 use xan_lin::Form;

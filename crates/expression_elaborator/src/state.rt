@@ -2,15 +2,14 @@
 
 ghost use Rattle.std.specs.Prelude.{◌≡◌, ◌≤◌, ◌<◌, ◌+◌, suc, true, false, Ok, Err, IfOk, length, nat_lt, option_map};
 ghost use Rattle.std.specs.List.Sorted.{IsPartitionPoint};
-ghost use Rattle.expression_elaborator.specs.Code.{Gives};
+ghost use Rattle.header_elaborator.specs.Code.{Gives};
 ghost use Rattle.expression_elaborator.specs.Views.{state_of};
 ghost use Rattle.state_types.specs.PlaceTypes.{PlacesRise, type_at};
 ghost use Rattle.typed_core.specs.Limits.{Misfit, within};
 ghost use Rattle.typed_core.specs.States as spec;
 ghost use Rattle.xan_lin.specs.declared.term.LimitKind.TheVariants as limit;
 
-use crate::error::{Failure, Stop};
-use crate::types::is_like;
+use header_elaborator::{Failure, Stop, is_like};
 use index_sorts::Context;
 use operation_rules::{Setting, widen};
 use state_types::{Places, StateType, Ty};
@@ -114,7 +113,7 @@ pub(crate) fn over(rows: &Context, vars: u32) -> Result<Context, Failure>
 
 impl State {
     /// Adds so many index variables.
-    #[tactic(auto, using(crate::proofs::WalkParts::ruled_fails), unfolding(typed_core::specs::States::with_fresh))]
+    #[tactic(auto, using(header_elaborator::proofs::WalkParts::ruled_fails), unfolding(typed_core::specs::States::with_fresh))]
     pub fn fresh(&mut self, count: u32) -> Result<(), Stop>
         ensures moved { Gives (λ _. state_of self.new) result (spec.with_fresh count (state_of self.old)) }
         ensures more { IfOk result (λ _. self.new.ctx.vars ≡ self.old.ctx.vars + count) }

@@ -1,7 +1,7 @@
 //! Tests of `if` and `while`.
 
 ghost use Rattle.std.specs.Prelude.{◌≡◌, ◌≤◌, ◌∷◌, [], map, IfOk, All};
-ghost use Rattle.expression_elaborator.specs.Code.{Gives};
+ghost use Rattle.header_elaborator.specs.Code.{Gives};
 ghost use Rattle.expression_elaborator.specs.Views.{AreWithin, IsSite, same_sides, sides_of, site_of, state_of};
 ghost use Rattle.operation_rules.specs.Applied.{all_assuming};
 ghost use Rattle.operation_rules.specs.Faults.{filled};
@@ -14,9 +14,9 @@ ghost use Rattle.xanadu_tree.specs.PlainOf.{plain_expr, plain_test, to_tests};
 
 use crate::constructs::state_by;
 use crate::demands::note_state;
-use crate::error::{Failure, Stop};
 use crate::operands::{comparison_of, in_order, operand};
 use crate::state::{Site, State};
+use header_elaborator::{Failure, Stop};
 use index_sorts::Context;
 use operation_rules::{Operation, assume_all, side_rows};
 use state_types::Ty;
@@ -33,7 +33,7 @@ pub struct Sides {
 }
 
 /// The context, with the rows of a side.
-#[tactic(auto, using(crate::proofs::WalkParts::ruled_fails, crate::proofs::WalkParts::sides_below, crate::proofs::ContextVariables::assumed_same))]
+#[tactic(auto, using(header_elaborator::proofs::WalkParts::ruled_fails, crate::proofs::BranchSides::sides_below, crate::proofs::ContextVariables::assumed_same))]
 fn on_side(
     alloc: Global,
     taken: bool,

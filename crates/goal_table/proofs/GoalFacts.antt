@@ -4,7 +4,7 @@ use Rattle.std.proofs.lemmas.List.Elements.{All-nil, All-cons}
 use Rattle.std.proofs.lemmas.List.{length-map, take_more, drop_more}
 use Rattle.linear_solver.specs.declared.answer.Answer.{Answer}
 use Rattle.linear_solver.specs.declared.answer.Answer.TheVariants.{Proved}
-use Rattle.linear_solver.specs.declared.step.Step.{Step}
+use Rattle.solver_rows.specs.declared.step.Step.{Step}
 use Rattle.linear_solver.specs.Meaning.{line_meant, lines_meant}
 use Rattle.proof_lines.specs.declared.line.Line.{Line}
 use Rattle.typed_core.specs.Proving.{ElaboratedParts, ProvedParts, ProveAll}

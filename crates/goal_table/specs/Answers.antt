@@ -5,7 +5,7 @@ use Rattle.proof_lines.specs.declared.line.Line.{Line}
 use Rattle.linear_solver.specs.Meaning.{lines_meant}
 use Rattle.linear_solver.specs.declared.answer.Answer.{Answer}
 use Rattle.linear_solver.specs.declared.answer.Answer.TheVariants.{Proved}
-use Rattle.linear_solver.specs.declared.step.Step.{Step}
+use Rattle.solver_rows.specs.declared.step.Step.{Step}
 use Rattle.typed_core.specs.Proving.{ElaboratedParts, ProvedParts, ProveGoal}
 use Rattle.typed_core.specs.declared.goal.GoalAt.{GoalAt}
 use Rattle.goal_table.specs.declared.error.GoalError.{GoalError}

@@ -1,26 +1,14 @@
 -- Rows no two of which have equal coefficients: where a row goes to its place, and that they stay so.
-use Rattle.std.proofs.Common.{◌≡◌, ℕ, zero, suc, ◌<◌, pos, Bool, true, false, cond, ◌||◌, int_lt, List, [], ◌∷◌, ◌++◌, length, set, get_or, Option, Some, None, MatchOption, refl, sym, ◌∙◌, ap, subst, arith}
+use Rattle.std.proofs.Common.{◌≡◌, ℕ, zero, suc, ◌<◌, Bool, true, false, cond, ◌||◌, int_lt, List, [], ◌∷◌, ◌++◌, length, set, get_or, Option, Some, None, MatchOption, refl, sym, ◌∙◌, ap, subst, arith}
 use Rattle.std.specs.List.{list_any, position}
 use Rattle.std.specs.Option.{is_some}
 use Rattle.std.proofs.lemmas.Option.{slice_get_within, get_or_from_slice_get}
-use Rattle.xan_lin.specs.Linear.{Linear}
 use Rattle.xan_lin.specs.declared.term.Term.{Term}
-use Rattle.index_sorts.proofs.KnownRows.{Decides-same_form}
 use Rattle.proof_lines.proofs.Positions.{position_passes, is_some-position}
-use Rattle.linear_solver.specs.Systems.{Row, same_terms, lesser, placed, holds, settle}
+use Rattle.solver_rows.specs.SystemRows.{Row, same_terms, holds}
+use Rattle.linear_solver.specs.Systems.{lesser, placed, settle}
 use Rattle.linear_solver.specs.Reducing.{AreDistinct, IsPlace}
-
-pub equal_terms : (ts us : List Term) → same_terms ts us ≡ true → ts ≡ us
-equal_terms ts us e =
-    let x : Linear = record { terms = ts; constant = pos 0 } in
-    let y : Linear = record { terms = us; constant = pos 0 } in
-    ap (λ f. f.terms) ((Decides-same_form x y).0 e)
-
-pub terms_equal : (ts us : List Term) → ts ≡ us → same_terms ts us ≡ true
-terms_equal ts us e =
-    let x : Linear = record { terms = ts; constant = pos 0 } in
-    let y : Linear = record { terms = us; constant = pos 0 } in
-    (Decides-same_form x y).1 (ap (λ vs. let z : Linear = record { terms = vs; constant = pos 0 } in z) e)
+use Rattle.solver_rows.proofs.SameTerms.{equal_terms, terms_equal}
 
 pub either_false : (a b : Bool) → (a || b) ≡ false → (a ≡ false) × (b ≡ false)
 either_false true b e = cc

@@ -7,7 +7,7 @@ use Rattle.proof_lines.specs.declared.line.Line.TheVariants as line
 use Rattle.proof_lines.specs.Lines.{LineGives, LinesGive, IsSmall}
 use Rattle.proof_lines.specs.Cells.{IsProper, AreProper}
 use Rattle.proof_lines.proofs.Proper.{proper-push}
-use Rattle.linear_solver.specs.declared.step.Step.{Step}
+use Rattle.solver_rows.specs.declared.step.Step.{Step}
 use Rattle.linear_solver.specs.Meaning.{line_meant, lines_meant}
 
 pub get-more : (xs ys : List Linear) (k : ℕ) (x : Linear) → slice_get xs k ≡ Some x → slice_get (xs ++ ys) k ≡ Some x

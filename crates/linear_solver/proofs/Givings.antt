@@ -3,9 +3,10 @@ use Rattle.std.proofs.Common.{◌≡◌, ℕ, zero, suc, ◌+◌, ◌<◌, ◌�
 use Rattle.std.proofs.lemmas.List.{drop_more, drop_all}
 use Rattle.xan_lin.specs.Linear.{Linear}
 use Rattle.proof_lines.specs.Cells.{are_among}
-use Rattle.linear_solver.specs.declared.step.Step.TheVariants as step
-use Rattle.linear_solver.specs.declared.source.Source.TheVariants.{New}
-use Rattle.linear_solver.specs.Systems.{Row, tight, settle}
+use Rattle.solver_rows.specs.declared.step.Step.TheVariants as step
+use Rattle.solver_rows.specs.declared.source.Source.TheVariants.{New}
+use Rattle.solver_rows.specs.SystemRows.{Row, tight}
+use Rattle.linear_solver.specs.Systems.{settle}
 use Rattle.linear_solver.specs.Elimination.{bears, with_hyps}
 use Rattle.linear_solver.specs.Region.{Work, AreClosed}
 use Rattle.linear_solver.proofs.Room.{settle-more}

@@ -6,8 +6,8 @@ use Rattle.xan_lin.specs.Linear.{Linear}
 use Rattle.proof_lines.specs.Rows.{IsRefutation}
 use Rattle.proof_lines.specs.Lines.{LineGives, LinesGive, EndsRefuted, LinesProve}
 use Rattle.proof_lines.specs.Cells.{IsProper, AreProper}
-use Rattle.linear_solver.specs.declared.step.Step.{Step}
-use Rattle.linear_solver.specs.declared.step.Step.TheVariants.{Hyp, Goal, Comb, Cut}
+use Rattle.solver_rows.specs.declared.step.Step.{Step}
+use Rattle.solver_rows.specs.declared.step.Step.TheVariants.{Hyp, Goal, Comb, Cut}
 use Rattle.linear_solver.specs.Meaning.{line_meant, lines_meant}
 use Rattle.linear_solver.specs.Tracing.{needed, renumbered, kept_onto, traced}
 use Rattle.linear_solver.proofs.Given.{get-more, Stand, stands-more, stands-last, stands-length}

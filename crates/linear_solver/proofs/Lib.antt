@@ -1,9 +1,5 @@
-pub mod Euclid
 pub mod RowCounts
-pub mod RowSums
-pub mod Sparse
-pub mod SignLemmas
-pub mod CellSums
+pub mod SignedSystems
 pub mod Risen
 pub mod Reducible
 pub mod Stores
@@ -19,9 +15,6 @@ pub mod Turns
 pub mod Givings
 pub mod WholeAnswers
 pub mod Distinct
-pub mod CommonDivisors
-pub mod Lowest
-pub mod TightenedRows
 pub mod ConeWalks
 pub mod RoundProgress
 pub mod ConeClosure

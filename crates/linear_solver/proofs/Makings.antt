@@ -1,8 +1,9 @@
 -- The next system in the making, row after row of the present one.
 use Rattle.std.proofs.Common.{◌≡◌, ℕ, ◌+◌, ◌<◌, ◌≤◌, cond, List, length, drop, get_or, Result, Ok, Err, refl, sym, ◌∙◌, ap, subst, arith}
 use Rattle.xan_lin.specs.declared.term.LimitKind.{LimitKind}
-use Rattle.linear_solver.specs.declared.source.Sign.TheVariants.{Positive, Negative}
-use Rattle.linear_solver.specs.Systems.{Row, has_sign, with_sign, with_sum, with_sums, with_all_sums}
+use Rattle.solver_rows.specs.declared.source.Sign.TheVariants.{Positive, Negative}
+use Rattle.solver_rows.specs.SystemRows.{Row, has_sign}
+use Rattle.linear_solver.specs.Systems.{with_sign, with_sum, with_sums, with_all_sums}
 use Rattle.linear_solver.specs.Region.{no_row, Work, HasRoom, IsOpen}
 use Rattle.linear_solver.proofs.Passes.{sums_more, sums_stop, sums_all, all_more, all_stop, all_all}
 

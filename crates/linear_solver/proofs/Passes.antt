@@ -2,10 +2,11 @@
 use Rattle.std.proofs.Common.{◌≡◌, ℕ, ◌+◌, ◌<◌, ◌≤◌, Bool, true, false, cond, List, [], ◌∷◌, length, drop, get_or, Option, Some, None, Result, Ok, Err, refl, sym, ◌∙◌, ap, arith}
 use Rattle.std.proofs.lemmas.List.{drop_more, drop_all}
 use Rattle.xan_lin.specs.declared.term.LimitKind.{LimitKind}
-use Rattle.linear_solver.specs.declared.source.Sign.{Sign}
-use Rattle.linear_solver.specs.declared.source.Sign.TheVariants.{Positive, Negative}
+use Rattle.solver_rows.specs.declared.source.Sign.{Sign}
+use Rattle.solver_rows.specs.declared.source.Sign.TheVariants.{Positive, Negative}
 use Rattle.linear_solver.specs.declared.choose.Choice.{Choice}
-use Rattle.linear_solver.specs.Systems.{Row, line_of, has_sign, with_sign, with_sum, and_then, with_sums, with_all_sums}
+use Rattle.solver_rows.specs.SystemRows.{Row, line_of, has_sign}
+use Rattle.linear_solver.specs.Systems.{with_sign, with_sum, and_then, with_sums, with_all_sums}
 use Rattle.linear_solver.specs.Choosing.{cannot_hold, refuted_by, candidate, better, best_from}
 use Rattle.linear_solver.specs.Region.{no_row}
 

@@ -5,12 +5,14 @@ use Rattle.xan_lin.specs.Linear.{Linear, all_within}
 use Rattle.xan_pool.specs.Pool.{Pool}
 use Rattle.index_sorts.specs.Known.{no_terms}
 use Rattle.proof_lines.specs.Cells.{AreDifferent}
-use Rattle.linear_solver.specs.declared.side.Stored.{Stored}
-use Rattle.linear_solver.specs.declared.source.Sign.TheVariants.{Zero}
-use Rattle.linear_solver.specs.Divisors.{divisor}
-use Rattle.linear_solver.specs.Systems.{Row, same_terms, lesser, reduced_onto, with_sign}
+use Rattle.linear_solver.specs.declared.places.Stored.{Stored}
+use Rattle.solver_rows.specs.declared.source.Sign.TheVariants.{Zero}
+use Rattle.solver_rows.specs.Divisors.{divisor}
+use Rattle.solver_rows.specs.SystemRows.{Row, same_terms}
+use Rattle.linear_solver.specs.Systems.{lesser, reduced_onto, with_sign}
 use Rattle.linear_solver.specs.Reducing.{IsPlace}
-use Rattle.linear_solver.specs.Region.{risen, linear_in, row_in, no_row, rows_of, without, IsSettled, IsSigned, empty_pool, idle, Work, work_at, HasRoom, Lies}
+use Rattle.solver_rows.specs.RowsInCells.{linear_in, row_in, IsSigned}
+use Rattle.linear_solver.specs.Region.{risen, no_row, rows_of, without, IsSettled, empty_pool, idle, Work, work_at, HasRoom, Lies}
 use Rattle.linear_solver.proofs.Distinct.{distinct-push}
 use Rattle.linear_solver.proofs.Stores.{in-bound}
 use Rattle.linear_solver.proofs.Regions.{Put, puts, puts_lie, Replaced, sets, sets_lie, keeps_rows, keeps_lie, lies_none, lies_begun, begins, count_made, length-taken}

@@ -14,10 +14,11 @@ use Rattle.proof_lines.specs.Lines.{LinesProve}
 use Rattle.proof_lines.proofs.Opposites.{opposite_is}
 use Rattle.linear_solver.specs.declared.answer.Answer.{Answer}
 use Rattle.linear_solver.specs.declared.answer.Answer.TheVariants.{Proved, Unproved, Limit}
-use Rattle.linear_solver.specs.declared.step.Step.{Step}
-use Rattle.linear_solver.specs.declared.source.Look.{Look}
-use Rattle.linear_solver.specs.declared.source.Look.TheVariants.{Full, Refuted, Spent, Take}
-use Rattle.linear_solver.specs.Systems.{Row, next_rows}
+use Rattle.solver_rows.specs.declared.step.Step.{Step}
+use Rattle.linear_solver.specs.declared.choose.Look.{Look}
+use Rattle.linear_solver.specs.declared.choose.Look.TheVariants.{Full, Refuted, Spent, Take}
+use Rattle.solver_rows.specs.SystemRows.{Row}
+use Rattle.linear_solver.specs.Systems.{next_rows}
 use Rattle.linear_solver.specs.Choosing.{look_at}
 use Rattle.linear_solver.specs.Numbering.{numbered}
 use Rattle.linear_solver.specs.Cone.{cone}

@@ -4,10 +4,11 @@ use Rattle.std.specs.List.{list_any}
 use Rattle.std.proofs.lemmas.List.{append_assoc, append-nil}
 use Rattle.xan_lin.specs.Linear.{Linear}
 use Rattle.proof_lines.specs.Rows.{cut_of}
-use Rattle.linear_solver.specs.declared.source.Sign.{Sign}
-use Rattle.linear_solver.specs.declared.step.Step.{Step}
-use Rattle.linear_solver.specs.Divisors.{divisor}
-use Rattle.linear_solver.specs.Systems.{Row, linear_of, row_of, same_terms, tight, settle, reduced_onto, has_sign, with_sign}
+use Rattle.solver_rows.specs.declared.source.Sign.{Sign}
+use Rattle.solver_rows.specs.declared.step.Step.{Step}
+use Rattle.solver_rows.specs.Divisors.{divisor}
+use Rattle.solver_rows.specs.SystemRows.{Row, linear_of, row_of, same_terms, tight, has_sign}
+use Rattle.linear_solver.specs.Systems.{settle, reduced_onto, with_sign}
 use Rattle.linear_solver.specs.Numbering.{numbered, steps_with, line_with, at_line}
 use Rattle.linear_solver.specs.Reducing.{AreDistinct}
 use Rattle.linear_solver.specs.Region.{IsSettled, AreSettled, AreLines}

@@ -16,23 +16,24 @@ use Rattle.proof_lines.specs.Rows.{opposite_of, IsRefutation}
 use Rattle.proof_lines.specs.Lines.{IsSmall}
 use Rattle.proof_lines.specs.Cells.{IsProper, are_among}
 use Rattle.proof_lines.proofs.Proper.{both, join, proper-at, proper-combination}
-use Rattle.linear_solver.specs.declared.step.Step.{Step}
-use Rattle.linear_solver.specs.declared.step.Step.TheVariants as step
-use Rattle.linear_solver.specs.declared.source.Source.{Source}
-use Rattle.linear_solver.specs.declared.source.Source.TheVariants.{New}
-use Rattle.linear_solver.specs.declared.source.Sign.{Sign}
-use Rattle.linear_solver.specs.declared.source.Sign.TheVariants.{Positive, Negative, Zero}
-use Rattle.linear_solver.specs.declared.source.Look.{Look}
-use Rattle.linear_solver.specs.declared.source.Look.TheVariants.{Full, Refuted, Spent, Take}
+use Rattle.solver_rows.specs.declared.step.Step.{Step}
+use Rattle.solver_rows.specs.declared.step.Step.TheVariants as step
+use Rattle.solver_rows.specs.declared.source.Source.{Source}
+use Rattle.solver_rows.specs.declared.source.Source.TheVariants.{New}
+use Rattle.solver_rows.specs.declared.source.Sign.{Sign}
+use Rattle.solver_rows.specs.declared.source.Sign.TheVariants.{Positive, Negative, Zero}
+use Rattle.linear_solver.specs.declared.choose.Look.{Look}
+use Rattle.linear_solver.specs.declared.choose.Look.TheVariants.{Full, Refuted, Spent, Take}
 use Rattle.linear_solver.specs.declared.choose.Choice.{Choice}
-use Rattle.linear_solver.specs.Divisors.{gcd_within, gcd}
-use Rattle.linear_solver.specs.Systems.{Row, linear_of, tight, settle, reduced_onto, coefficient, has_sign, with_sign, first_by, second_by, line_of, sum_of_two, sum_source, size, limited, bounded, with_sum, and_then, with_sums, with_all_sums, next_rows}
+use Rattle.solver_rows.specs.Divisors.{gcd_within, gcd}
+use Rattle.solver_rows.specs.SystemRows.{Row, linear_of, tight, coefficient, has_sign, first_by, second_by, line_of, sum_of_two, sum_source, size}
+use Rattle.linear_solver.specs.Systems.{settle, reduced_onto, with_sign, limited, bounded, with_sum, and_then, with_sums, with_all_sums, next_rows}
 use Rattle.linear_solver.specs.Choosing.{cannot_hold, refuted_by, best_from, refuted_or, look_at}
 use Rattle.linear_solver.specs.Numbering.{numbered}
 use Rattle.linear_solver.specs.Cone.{touches}
 use Rattle.linear_solver.specs.Tracing.{traced}
 use Rattle.linear_solver.specs.Elimination.{ended, after_look, after_rows, rounds, bears, with_hyps, first_rows}
-use Rattle.linear_solver.proofs.Euclid.{gcd_is}
+use Rattle.solver_rows.proofs.Euclid.{gcd_is}
 use Rattle.linear_solver.proofs.ConeClosure.{Closed}
 use Rattle.linear_solver.proofs.Given.{Stand}
 use Rattle.linear_solver.proofs.Sourced.{SourceGives, AreSourced, Given, AreGiven, tight-sourced, settle-sourced, numbers}

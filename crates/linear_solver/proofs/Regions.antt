@@ -3,17 +3,21 @@ use Rattle.std.proofs.Common.{◌≡◌, ℕ, zero, suc, ◌+◌, ◌-◌, ◌<�
 use Rattle.std.proofs.lemmas.List.{length-append, take-append-le, take_all}
 use Rattle.xan_lin.specs.Linear.{Linear, all_within}
 use Rattle.xan_pool.specs.Pool.{Pool}
-use Rattle.linear_solver.specs.declared.side.Stored.{Stored}
-use Rattle.linear_solver.specs.declared.source.Sign.TheVariants.{Zero}
-use Rattle.linear_solver.specs.declared.step.Step.{Step}
-use Rattle.linear_solver.specs.Systems.{Row, linear_of, reduced_onto, with_sign}
+use Rattle.linear_solver.specs.declared.places.Stored.{Stored}
+use Rattle.solver_rows.specs.declared.source.Sign.TheVariants.{Zero}
+use Rattle.solver_rows.specs.declared.step.Step.{Step}
+use Rattle.solver_rows.specs.SystemRows.{Row, linear_of}
+use Rattle.linear_solver.specs.Systems.{reduced_onto, with_sign}
 use Rattle.linear_solver.specs.Numbering.{System, numbered}
 use Rattle.linear_solver.specs.Reducing.{AreDistinct, IsPlace}
-use Rattle.linear_solver.specs.Region.{AreRising, AreIn, AreLines, AreSettled, IsSettled, IsSigned, AreSigned, AreSignsIn, sparse, spread_cells, linear_in, row_in, no_row, stored_row, rows_of, NumberedSides, numbered_sides, without, placed_from, moved, empty_pool, Work, work_at, Lies, idle}
-use Rattle.linear_solver.specs.Signing.{AreSigns}
-use Rattle.linear_solver.proofs.Sparse.{sparse-front}
-use Rattle.linear_solver.proofs.SignLemmas.{signs_in, signed-at, signed-push, signed-set, signed-without, signed-numbered, signed-placed}
-use Rattle.linear_solver.proofs.Distinct.{distinct-set, equal_terms}
+use Rattle.solver_rows.specs.RowsInCells.{AreRising, IsSigned, AreSignsIn, sparse, spread_cells, linear_in, row_in}
+use Rattle.linear_solver.specs.Region.{AreIn, AreLines, AreSettled, IsSettled, AreSigned, no_row, stored_row, rows_of, NumberedSides, numbered_sides, without, placed_from, moved, empty_pool, Work, work_at, Lies, idle}
+use Rattle.solver_rows.specs.Signing.{AreSigns}
+use Rattle.solver_rows.proofs.Sparse.{sparse-front}
+use Rattle.linear_solver.proofs.SignedSystems.{signed-at, signed-push, signed-set, signed-without, signed-numbered, signed-placed}
+use Rattle.solver_rows.proofs.SignLemmas.{signs_in}
+use Rattle.solver_rows.proofs.SameTerms.{equal_terms}
+use Rattle.linear_solver.proofs.Distinct.{distinct-set}
 use Rattle.linear_solver.proofs.Reducible.{Kept, keeps, settled-push, Numbered, numbers_keep}
 use Rattle.linear_solver.proofs.Stores.{length-rows_of, rows_of-at, rows_of-push, rows_of-set, rows_of-none, length-set, in-bound, in-more, in-at, in-push, in-set, in-without, rows_of-more, rows_of-taken, last_row, rows_of-without, numbered_of, in-numbered, length-sides, length-moved, take-moved, rows_of-moved, in-placed}
 
@@ -21,11 +25,6 @@ pub length-taken : {X : Type 0} (n : ℕ) (xs : List X) → n ≤ length xs → 
 length-taken zero xs h = refl
 length-taken (suc n) [] h = absurd (omega arith)
 length-taken (suc n) (x ∷ xs) h = ap suc (length-taken n xs (omega arith))
-
-pub length-dropped : {X : Type 0} (n : ℕ) (xs : List X) → length (drop n xs) ≡ length xs - n
-length-dropped zero xs = omega arith
-length-dropped (suc n) [] = omega arith
-length-dropped (suc n) (x ∷ xs) = omega (arith, length-dropped n xs)
 
 -- ---- a row is read
 

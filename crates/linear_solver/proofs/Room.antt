@@ -5,14 +5,15 @@ use Rattle.xan_lin.specs.Linear.{Linear, are_within}
 use Rattle.xan_lin.specs.declared.term.LimitKind.{LimitKind}
 use Rattle.xan_lin.specs.declared.term.LimitKind.TheVariants as limit
 use Rattle.xan_lin.proofs.Booleans.{is_not_less}
-use Rattle.linear_solver.specs.declared.step.Step.{Step}
-use Rattle.linear_solver.specs.declared.step.Step.TheVariants as step
-use Rattle.linear_solver.specs.declared.source.Source.{Source}
-use Rattle.linear_solver.specs.declared.source.Source.TheVariants.{Line, New}
-use Rattle.linear_solver.specs.declared.source.Sign.TheVariants.{Positive, Negative, Zero}
-use Rattle.linear_solver.specs.declared.source.Look.{Look}
-use Rattle.linear_solver.specs.declared.source.Look.TheVariants.{Full, Take}
-use Rattle.linear_solver.specs.Systems.{Row, linear_of, tight, same_terms, lesser, placed, holds, settle, reduced_onto, with_sign, limited, with_sum, and_then, with_sums, with_all_sums, next_rows, size, sum_source, sum_of_two}
+use Rattle.solver_rows.specs.declared.step.Step.{Step}
+use Rattle.solver_rows.specs.declared.step.Step.TheVariants as step
+use Rattle.solver_rows.specs.declared.source.Source.{Source}
+use Rattle.solver_rows.specs.declared.source.Source.TheVariants.{Line, New}
+use Rattle.solver_rows.specs.declared.source.Sign.TheVariants.{Positive, Negative, Zero}
+use Rattle.linear_solver.specs.declared.choose.Look.{Look}
+use Rattle.linear_solver.specs.declared.choose.Look.TheVariants.{Full, Take}
+use Rattle.solver_rows.specs.SystemRows.{Row, linear_of, tight, same_terms, holds, size, sum_source, sum_of_two}
+use Rattle.linear_solver.specs.Systems.{lesser, placed, settle, reduced_onto, with_sign, limited, with_sum, and_then, with_sums, with_all_sums, next_rows}
 use Rattle.linear_solver.specs.Choosing.{refuted_by, best_from, refuted_or, look_at}
 use Rattle.linear_solver.specs.Numbering.{with_source, source_line, with_cut, steps_with}
 use Rattle.linear_solver.specs.Elimination.{bears, with_hyps, first_rows}

@@ -1,11 +1,12 @@
 -- How far the rounds have come.
 use Rattle.std.proofs.Common.{◌≡◌, ℕ, zero, suc, ◌+◌, ◌-◌, ◌<◌, ◌≤◌, List, [], Result, Ok, Err, refl, sym, ◌∙◌, ap, subst, arith}
 use Rattle.linear_solver.specs.declared.answer.Answer.{Answer}
-use Rattle.linear_solver.specs.declared.step.Step.{Step}
+use Rattle.solver_rows.specs.declared.step.Step.{Step}
 use Rattle.xan_lin.specs.declared.term.LimitKind.{LimitKind}
-use Rattle.linear_solver.specs.declared.source.Look.{Look}
-use Rattle.linear_solver.specs.declared.source.Look.TheVariants.{Full, Refuted, Spent, Take}
-use Rattle.linear_solver.specs.Systems.{Row, next_rows}
+use Rattle.linear_solver.specs.declared.choose.Look.{Look}
+use Rattle.linear_solver.specs.declared.choose.Look.TheVariants.{Full, Refuted, Spent, Take}
+use Rattle.solver_rows.specs.SystemRows.{Row}
+use Rattle.linear_solver.specs.Systems.{next_rows}
 use Rattle.linear_solver.specs.Choosing.{look_at}
 use Rattle.linear_solver.specs.Numbering.{System, numbered}
 use Rattle.linear_solver.specs.Elimination.{ended, after_look, after_rows, rounds}

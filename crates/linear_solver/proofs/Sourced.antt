@@ -10,16 +10,17 @@ use Rattle.proof_lines.specs.Check.{is_positive}
 use Rattle.proof_lines.specs.Cells.{IsProper}
 use Rattle.proof_lines.proofs.Proper.{proper-cut, proper-at}
 use Rattle.proof_lines.proofs.Quotients.{cut-small}
-use Rattle.linear_solver.specs.declared.step.Step.{Step}
-use Rattle.linear_solver.specs.declared.step.Step.TheVariants as step
-use Rattle.linear_solver.specs.declared.source.Source.{Source}
-use Rattle.linear_solver.specs.declared.source.Source.TheVariants.{Line, New}
-use Rattle.linear_solver.specs.Divisors.{divisor}
-use Rattle.linear_solver.specs.Systems.{Row, linear_of, row_of, divided_by, tight, same_terms, holds, placed, settle}
+use Rattle.solver_rows.specs.declared.step.Step.{Step}
+use Rattle.solver_rows.specs.declared.step.Step.TheVariants as step
+use Rattle.solver_rows.specs.declared.source.Source.{Source}
+use Rattle.solver_rows.specs.declared.source.Source.TheVariants.{Line, New}
+use Rattle.solver_rows.specs.Divisors.{divisor}
+use Rattle.solver_rows.specs.SystemRows.{Row, linear_of, row_of, divided_by, tight, same_terms, holds}
+use Rattle.linear_solver.specs.Systems.{placed, settle}
 use Rattle.linear_solver.specs.Numbering.{with_source, source_line, with_cut, cut_line, steps_with, line_with, at_line, System, numbered}
 use Rattle.linear_solver.specs.Meaning.{line_meant, lines_meant}
 use Rattle.linear_solver.proofs.Given.{get-more, gives-more, small-at, Stand, stands-more, stands-last}
-use Rattle.linear_solver.proofs.CommonDivisors.{divisor-divides}
+use Rattle.solver_rows.proofs.CommonDivisors.{divisor-divides}
 
 module _ (hyps : List Linear) (goal : Linear) (vars : List ℕ) where
   -- the source gives the row, behind rows that steps give

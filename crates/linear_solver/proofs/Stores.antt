@@ -3,14 +3,16 @@ use Rattle.std.proofs.Common.{◌≡◌, ℕ, zero, suc, ◌+◌, ◌<◌, ◌�
 use Rattle.std.proofs.lemmas.List.{append_assoc, append-nil, length-append, get_or_append_left, get_or_default, drop_more, drop_all}
 use Rattle.std.proofs.Math.Seq.{get_or-append_seam}
 use Rattle.xan_pool.specs.Pool.{Pool}
-use Rattle.linear_solver.specs.declared.side.Stored.{Stored}
-use Rattle.linear_solver.specs.declared.source.Sign.TheVariants.{Zero}
-use Rattle.linear_solver.specs.declared.step.Step.{Step}
-use Rattle.linear_solver.specs.Systems.{Row, has_sign, with_sign}
+use Rattle.linear_solver.specs.declared.places.Stored.{Stored}
+use Rattle.solver_rows.specs.declared.source.Sign.TheVariants.{Zero}
+use Rattle.solver_rows.specs.declared.step.Step.{Step}
+use Rattle.solver_rows.specs.SystemRows.{Row, has_sign}
+use Rattle.linear_solver.specs.Systems.{with_sign}
 use Rattle.linear_solver.specs.Numbering.{System, numbered, steps_with, line_with}
-use Rattle.linear_solver.specs.Region.{AreRising, AreIn, sparse, row_in, no_row, stored_row, rows_of, stored_at, numbered_sides, has_none, without, placed_from, moved, AreSigned}
-use Rattle.linear_solver.proofs.Sparse.{sparse-front}
-use Rattle.linear_solver.proofs.SignLemmas.{sign_says}
+use Rattle.solver_rows.specs.RowsInCells.{AreRising, sparse, row_in}
+use Rattle.linear_solver.specs.Region.{AreIn, no_row, stored_row, rows_of, stored_at, numbered_sides, has_none, without, placed_from, moved, AreSigned}
+use Rattle.solver_rows.proofs.Sparse.{sparse-front}
+use Rattle.solver_rows.proofs.SignLemmas.{sign_says}
 
 -- ---- rows by their numbers
 

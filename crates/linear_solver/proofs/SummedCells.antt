@@ -1,21 +1,20 @@
 -- The sum of two rows in cells.
-use Rattle.std.proofs.Common.{◌≡◌, ℕ, ◌+◌, ◌<◌, ◌^◌, unsigned_abs, nat_lt, ℤ, true, false, List, ◌∷◌, length, Some, sym, ◌∙◌, ap, subst, arith}
+use Rattle.std.proofs.Common.{◌≡◌, ℕ, ◌+◌, ◌<◌, ◌^◌, unsigned_abs, nat_lt, ℤ, true, false, List, length, Some, sym, ◌∙◌, ap, subst}
 use Rattle.std.specs.List.{list_all}
-use Rattle.xan_lin.specs.Linear.{Linear, is_within, all_within, are_within}
-use Rattle.xan_lin.specs.Terms.{IsRising}
-use Rattle.xan_lin.specs.declared.term.Term.{Term}
+use Rattle.xan_lin.specs.Linear.{is_within, all_within, are_within}
 use Rattle.proof_lines.specs.Rows.{combination_of}
-use Rattle.proof_lines.specs.Cells.{combined_cells, are_among}
+use Rattle.proof_lines.specs.Cells.{combined_cells}
 use Rattle.proof_lines.proofs.Proper.{both}
-use Rattle.linear_solver.specs.declared.step.Step.TheVariants as step
-use Rattle.linear_solver.specs.declared.source.Source.{Source}
-use Rattle.linear_solver.specs.declared.source.Source.TheVariants.{New}
-use Rattle.linear_solver.specs.declared.tight.NewRow.{NewRow}
-use Rattle.linear_solver.specs.Divisors.{divisor}
-use Rattle.linear_solver.specs.Systems.{Row, linear_of, line_of, first_by, second_by, sum_of_two, sum_source, tight, coefficient}
-use Rattle.linear_solver.specs.Region.{AreRising, linear_in, row_in, spread_cells, IsSigned, IsSummed}
-use Rattle.linear_solver.proofs.Sparse.{linear-combined, linear-within, length-combined, linear-spread, length-spread}
-use Rattle.linear_solver.proofs.RowCounts.{coefficient-small}
+use Rattle.solver_rows.specs.declared.step.Step.TheVariants as step
+use Rattle.solver_rows.specs.declared.source.Source.{Source}
+use Rattle.solver_rows.specs.declared.source.Source.TheVariants.{New}
+use Rattle.solver_rows.specs.declared.tight.NewRow.{NewRow}
+use Rattle.solver_rows.specs.Divisors.{divisor}
+use Rattle.solver_rows.specs.SystemRows.{Row, linear_of, line_of, first_by, second_by, sum_of_two, sum_source, tight, coefficient}
+use Rattle.solver_rows.specs.RowsInCells.{AreRising, linear_in, row_in, IsSigned}
+use Rattle.linear_solver.specs.Region.{IsSummed}
+use Rattle.solver_rows.proofs.Sparse.{linear-combined, linear-within, length-combined}
+use Rattle.solver_rows.proofs.SmallCoefficients.{coefficient-small}
 
 -- two rows of a system in cells, and what they are multiplied by
 pub record Pair (vars : List ℕ) (left right : List ℤ) (f s : ℤ) (a b : ℕ) (p n : Row) : Type 0 where
@@ -65,18 +64,6 @@ module _ (vars : List ℕ) (left right : List ℤ) (f s : ℤ) (a b : ℕ) (p n 
 pub size_small : (row : Row) (v : ℕ) → all_within row.terms ≡ true
     → unsigned_abs (coefficient v row.terms) < 2 ^ 62
 size_small row v small = coefficient-small v row.terms small
-
--- ---- the row of a form
-
-pub record Spread (vars : List ℕ) (cells : List ℤ) (x : Linear) : Type 0 where
-  pub is : linear_in vars cells ≡ x
-  pub wide : length cells ≡ length vars + 1
-
-pub spreads : (vars : List ℕ) (cells : List ℤ) (x : Linear) (ts : List Term) (c : ℤ) → ts ≡ x.terms → c ≡ x.constant → AreRising 0 vars → IsRising 0 x.terms → are_among vars x.terms ≡ true
-    → cells ≡ c ∷ spread_cells vars ts → Spread vars cells x
-spreads vars cells x ts c t k rising rises among e =
-    let all : cells ≡ x.constant ∷ spread_cells vars x.terms = e ∙ ap (λ n. n ∷ spread_cells vars ts) k ∙ ap (λ us. x.constant ∷ spread_cells vars us) t in
-    record { is = linear-spread vars x cells rising rises among all; wide = omega (arith, ap length all, length-spread vars x.terms) }
 
 -- ---- as the code has them
 

@@ -4,8 +4,9 @@ use Rattle.std.specs.Int.{bit_at}
 use Rattle.std.proofs.lemmas.Bool.Decides.{nat_tests}
 use Rattle.std.proofs.lemmas.Nat.Bits.{bit_at-lt, bit_at_above}
 use Rattle.xan_lin.proofs.Booleans.{is_less}
-use Rattle.linear_solver.specs.declared.source.Sign.{Sign}
-use Rattle.linear_solver.specs.Systems.{Row, has_sign, with_sign}
+use Rattle.solver_rows.specs.declared.source.Sign.{Sign}
+use Rattle.solver_rows.specs.SystemRows.{Row, has_sign}
+use Rattle.linear_solver.specs.Systems.{with_sign}
 use Rattle.linear_solver.specs.Region.{no_row}
 use Rattle.linear_solver.proofs.Passes.{counts_one, counts_none, counts_all}
 use Rattle.linear_solver.proofs.Stores.{get-other, get-below, get-there}

@@ -5,11 +5,12 @@ use Rattle.xan_lin.specs.declared.term.LimitKind.{LimitKind}
 use Rattle.proof_lines.specs.Variables.{is_among}
 use Rattle.proof_lines.proofs.Different.{equals_itself}
 use Rattle.linear_solver.specs.declared.answer.Answer.{Answer}
-use Rattle.linear_solver.specs.declared.step.Step.{Step}
-use Rattle.linear_solver.specs.declared.source.Look.{Look}
-use Rattle.linear_solver.specs.declared.source.Look.TheVariants.{Full, Take}
+use Rattle.solver_rows.specs.declared.step.Step.{Step}
+use Rattle.linear_solver.specs.declared.choose.Look.{Look}
+use Rattle.linear_solver.specs.declared.choose.Look.TheVariants.{Full, Take}
 use Rattle.linear_solver.specs.declared.choose.Choice.{Choice}
-use Rattle.linear_solver.specs.Systems.{Row, next_rows}
+use Rattle.solver_rows.specs.SystemRows.{Row}
+use Rattle.linear_solver.specs.Systems.{next_rows}
 use Rattle.linear_solver.specs.Choosing.{choice_of, candidate, is_before, better, best_from, refuted_by, refuted_or, look_at}
 use Rattle.linear_solver.specs.Numbering.{System, numbered}
 use Rattle.linear_solver.specs.Elimination.{ended, rounds}

@@ -7,7 +7,7 @@ use Rattle.xan_lin.specs.declared.term.TooLarge.{TooLarge}
 use Rattle.proof_lines.specs.Cells.{are_among}
 use Rattle.linear_solver.specs.declared.answer.Answer.{Answer}
 use Rattle.linear_solver.specs.declared.answer.Answer.TheVariants.{Limit}
-use Rattle.linear_solver.specs.declared.step.Step.{Step}
+use Rattle.solver_rows.specs.declared.step.Step.{Step}
 use Rattle.linear_solver.specs.Cone.{cone}
 use Rattle.linear_solver.specs.Elimination.{in_cone, from_start, refutation}
 use Rattle.linear_solver.specs.Solving.{Answers}

@@ -1,16 +1,18 @@
--- What is read of a workspace: coefficients, equal rows and constants; and a row that goes to its place.
-use Rattle.std.proofs.Common.{◌≡◌, ◌↔◌, ℕ, ◌+◌, ◌<◌, ◌≤◌, ℤ, pos, IsTrue, Bool, true, false, ◌&&◌, ◌||◌, int_lt, int_le, List, [], ◌∷◌, ◌++◌, length, drop, set, get_or, refl, sym, ◌∙◌, ap, subst, arith}
+-- What is read of a workspace: coefficients, and equal rows; and a row that goes to its place.
+use Rattle.std.proofs.Common.{◌≡◌, ◌↔◌, ℕ, ◌+◌, ◌<◌, ◌≤◌, ℤ, pos, IsTrue, Bool, true, false, ◌&&◌, ◌||◌, int_lt, List, [], ◌∷◌, ◌++◌, length, drop, set, get_or, refl, sym, ◌∙◌, ap, subst, arith}
 use Rattle.std.specs.List.{list_any}
 use Rattle.std.proofs.lemmas.List.{drop_more, drop_all, get_or_default}
 use Rattle.xan_lin.specs.declared.term.Term.{Term}
-use Rattle.linear_solver.specs.declared.side.Side.{Side}
-use Rattle.linear_solver.specs.Systems.{Row, linear_of, same_terms, lesser, coefficient, settle, holds}
+use Rattle.solver_rows.specs.SystemRows.{Row, linear_of, same_terms, coefficient, holds}
+use Rattle.linear_solver.specs.Systems.{lesser, settle}
 use Rattle.index_sorts.specs.Known.{no_terms}
 use Rattle.linear_solver.specs.Choosing.{cannot_hold}
 use Rattle.linear_solver.specs.Reducing.{AreDistinct, IsPlace}
-use Rattle.linear_solver.specs.Region.{AreRising, sparse, linear_in, row_in, no_row, Work}
-use Rattle.linear_solver.proofs.Sparse.{sparse-coefficient, sparse-equal}
-use Rattle.linear_solver.proofs.Distinct.{equal_terms, terms_equal, settles_none, settles_new, settles_at}
+use Rattle.solver_rows.specs.RowsInCells.{AreRising, sparse, linear_in}
+use Rattle.linear_solver.specs.Region.{no_row, Work}
+use Rattle.solver_rows.proofs.Sparse.{sparse-coefficient, sparse-equal}
+use Rattle.solver_rows.proofs.SameTerms.{equal_terms, terms_equal}
+use Rattle.linear_solver.proofs.Distinct.{settles_none, settles_new, settles_at}
 
 -- ---- coefficients
 
@@ -62,11 +64,6 @@ pub not_anywhere : (rows : List Row) (ts : List Term) (k : ℕ) → length rows 
     → list_any (λ r. same_terms r.terms ts) rows ≡ false
 not_anywhere rows ts k h same = sym same ∙ ap (list_any (λ r. same_terms r.terms ts)) (drop_all k rows h)
 
--- ---- constants
-
-pub constant_in : (vars : List ℕ) (cells : List ℤ) (c : ℤ) → cells ≡ c ∷ drop 1 cells → c ≡ (linear_in vars cells).constant
-constant_in vars cells c e = sym (ap (λ xs. (linear_in vars xs).constant) e)
-
 -- ---- a row that goes to its place
 
 pub holds_settled : (w : Work) (r : Row) (b : Bool) → b ≡ holds r → b ≡ true → w ≡ record w { made = settle w.made r }
@@ -83,16 +80,6 @@ set_settled w new r k b e f p d change =
     change ∙ ap (λ rs. let v : Work = record w { made = rs } in v)
     (ap (λ s. set w.made k (lesser s r)) (get_or_default w.made k no_row r p.0)
     ∙ settles_at w.made w.made (set w.made k (lesser (get_or w.made k r) r)) r r.terms k b e f refl refl p d refl)
-
--- ---- a row that holds in any case
-
-pub holds_is : (vars : List ℕ) (cells : List ℤ) (s : Side) (c : ℤ) → no_terms (linear_in vars cells).terms ≡ true → cells ≡ c ∷ drop 1 cells
-    → int_le (pos 0) c ≡ holds (row_in vars cells s)
-holds_is vars cells s c none front =
-    ap (int_le (pos 0)) (constant_in vars cells c front) ∙ ap (λ b. b && int_le (pos 0) (linear_in vars cells).constant) (sym none)
-
-pub holds_not : (vars : List ℕ) (cells : List ℤ) (s : Side) (b : Bool) → b ≡ no_terms (linear_in vars cells).terms → b ≡ false → b ≡ holds (row_in vars cells s)
-holds_not vars cells s b is e = e ∙ ap (λ t. t && int_le (pos 0) (linear_in vars cells).constant) (sym e ∙ is)
 
 -- ---- a row that cannot hold
 

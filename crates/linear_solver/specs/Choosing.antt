@@ -1,11 +1,12 @@
 -- What a look at a system shows: too many rows, a row that cannot hold, or the variable that is taken next.
 use Rattle.std.specs.Prelude.{ℕ, ◌+◌, ◌*◌, ◌==◌, pos, Bool, ◌&&◌, ◌||◌, List, [], ◌∷◌, length, nat_lt, int_lt, Option, Some, None, if◌then◌else◌}
 use Rattle.index_sorts.specs.Known.{no_terms}
-use Rattle.linear_solver.specs.declared.source.Sign.TheVariants.{Positive, Negative}
-use Rattle.linear_solver.specs.declared.source.Look.{Look}
-use Rattle.linear_solver.specs.declared.source.Look.TheVariants.{Full, Refuted, Spent, Take}
+use Rattle.solver_rows.specs.declared.source.Sign.TheVariants.{Positive, Negative}
+use Rattle.linear_solver.specs.declared.choose.Look.{Look}
+use Rattle.linear_solver.specs.declared.choose.Look.TheVariants.{Full, Refuted, Spent, Take}
 use Rattle.linear_solver.specs.declared.choose.Choice.{Choice}
-use Rattle.linear_solver.specs.Systems.{Row, with_sign, line_of}
+use Rattle.solver_rows.specs.SystemRows.{Row, line_of}
+use Rattle.linear_solver.specs.Systems.{with_sign}
 
 -- no variable, and a negative constant: it holds under no assignment
 abbrev pub cannot_hold : Row → Bool

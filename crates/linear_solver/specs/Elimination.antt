@@ -7,12 +7,13 @@ use Rattle.xan_lin.specs.declared.term.LimitKind.TheVariants as limit
 use Rattle.index_sorts.specs.Known.{no_terms}
 use Rattle.linear_solver.specs.declared.answer.Answer.{Answer}
 use Rattle.linear_solver.specs.declared.answer.Answer.TheVariants.{Proved, Unproved, Limit}
-use Rattle.linear_solver.specs.declared.step.Step.{Step}
-use Rattle.linear_solver.specs.declared.step.Step.TheVariants.{Hyp, Goal}
-use Rattle.linear_solver.specs.declared.source.Source.TheVariants.{New}
-use Rattle.linear_solver.specs.declared.source.Look.{Look}
-use Rattle.linear_solver.specs.declared.source.Look.TheVariants.{Full, Refuted, Spent, Take}
-use Rattle.linear_solver.specs.Systems.{Row, tight, settle, next_rows}
+use Rattle.solver_rows.specs.declared.step.Step.{Step}
+use Rattle.solver_rows.specs.declared.step.Step.TheVariants.{Hyp, Goal}
+use Rattle.solver_rows.specs.declared.source.Source.TheVariants.{New}
+use Rattle.linear_solver.specs.declared.choose.Look.{Look}
+use Rattle.linear_solver.specs.declared.choose.Look.TheVariants.{Full, Refuted, Spent, Take}
+use Rattle.solver_rows.specs.SystemRows.{Row, tight}
+use Rattle.linear_solver.specs.Systems.{settle, next_rows}
 use Rattle.linear_solver.specs.Choosing.{look_at}
 use Rattle.linear_solver.specs.Numbering.{numbered}
 use Rattle.linear_solver.specs.Tracing.{traced}

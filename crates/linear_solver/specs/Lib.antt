@@ -1,4 +1,3 @@
-pub mod Divisors
 pub mod Systems
 pub mod Choosing
 pub mod Numbering
@@ -6,8 +5,6 @@ pub mod Tracing
 pub mod Cone
 pub mod Elimination
 pub mod Meaning
-pub mod Merging
-pub mod Signing
 pub mod Region
 pub mod FoundVariables
 pub mod Buffers

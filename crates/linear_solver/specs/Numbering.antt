@@ -1,10 +1,10 @@
 -- How the rows of a reduced system get their steps.
 use Rattle.std.specs.Prelude.{ℕ, ℤ, pos, List, [], ◌∷◌, ◌++◌, length, int_lt, if◌then◌else◌}
-use Rattle.linear_solver.specs.declared.step.Step.{Step}
-use Rattle.linear_solver.specs.declared.step.Step.TheVariants.{Cut}
-use Rattle.linear_solver.specs.declared.source.Source.{Source}
-use Rattle.linear_solver.specs.declared.source.Source.TheVariants.{Line, New}
-use Rattle.linear_solver.specs.Systems.{Row}
+use Rattle.solver_rows.specs.declared.step.Step.{Step}
+use Rattle.solver_rows.specs.declared.step.Step.TheVariants.{Cut}
+use Rattle.solver_rows.specs.declared.source.Source.{Source}
+use Rattle.solver_rows.specs.declared.source.Source.TheVariants.{Line, New}
+use Rattle.solver_rows.specs.SystemRows.{Row}
 
 -- the steps with that of a row, unless it is there, and the number of the step that gives the row
 abbrev pub with_source : List Step → Source → List Step

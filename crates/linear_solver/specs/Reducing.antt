@@ -3,7 +3,7 @@ use Rattle.std.specs.Prelude.{◌≡◌, ℕ, ◌<◌, length, false, true, List
 use Rattle.std.specs.List.{list_any, slice_index_or}
 use Rattle.xan_lin.specs.declared.term.Term.{Term}
 use Rattle.xan_lin.specs.declared.term.LimitKind.{LimitKind}
-use Rattle.linear_solver.specs.Systems.{Row, same_terms}
+use Rattle.solver_rows.specs.SystemRows.{Row, same_terms}
 
 -- no later row has the coefficients of an earlier one
 abbrev pub AreDistinct : List Row → Type 0

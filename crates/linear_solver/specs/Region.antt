@@ -1,35 +1,25 @@
--- How the rows of systems lie in a region of cells: the constant, and then a coefficient for each variable, by rising variable.
-use Rattle.std.specs.Prelude.{◌≡◌, ℕ, suc, ◌+◌, ◌<◌, ◌≤◌, ℤ, pos, Bool, true, false, ◌&&◌, int_le, Option, Some, None, List, [], ◌∷◌, ◌++◌, length, take, drop, slice_set, vec_capacity, unsigned_abs, nat_lt, if◌then◌else◌}
+-- How the rows of systems lie in a pool, and what an elimination works on: no part of the promise.
+use Rattle.std.specs.Prelude.{◌≡◌, ℕ, suc, ◌+◌, ◌<◌, ◌≤◌, ℤ, pos, Bool, true, false, ◌&&◌, int_le, Option, Some, None, List, [], ◌∷◌, ◌++◌, length, take, drop, slice_set, vec_capacity, nat_lt, if◌then◌else◌}
 use Rattle.std.specs.List.{slice_index_or}
 use Rattle.index_sorts.specs.Known.{no_terms}
-use Rattle.xan_lin.specs.Terms.{with_multiple}
 use Rattle.xan_lin.specs.Linear.{Linear, all_within, are_within}
-use Rattle.xan_lin.specs.declared.term.Term.{Term}
 use Rattle.xan_pool.specs.Pool.{Pool}
 use Rattle.proof_lines.specs.Cells.{are_among}
-use Rattle.linear_solver.specs.declared.side.Side.{Side}
-use Rattle.linear_solver.specs.declared.side.Stored.{Stored}
-use Rattle.linear_solver.specs.declared.signs.Signs.{Signs}
-use Rattle.linear_solver.specs.declared.source.Source.TheVariants.{Line}
-use Rattle.linear_solver.specs.declared.source.Sign.{Sign}
-use Rattle.linear_solver.specs.declared.source.Sign.TheVariants.{Zero}
+use Rattle.linear_solver.specs.declared.places.Stored.{Stored}
+use Rattle.solver_rows.specs.declared.source.Source.TheVariants.{Line}
+use Rattle.solver_rows.specs.declared.source.Sign.TheVariants.{Zero}
 use Rattle.linear_solver.specs.declared.workspace.Workspace.TheInside.{Inside}
-use Rattle.linear_solver.specs.declared.tight.NewRow.{NewRow}
-use Rattle.linear_solver.specs.Systems.{Row, row_of, linear_of, tight, has_sign, sum_of_two, sum_source}
-use Rattle.linear_solver.specs.Signing.{AreSigns, sign_at, no_signs}
-use Rattle.linear_solver.specs.Merging.{front_coefficient, behind}
+use Rattle.solver_rows.specs.declared.tight.NewRow.{NewRow}
+use Rattle.solver_rows.specs.SystemRows.{Row, linear_of, tight, sum_of_two, sum_source}
+use Rattle.solver_rows.specs.Signing.{AreSigns, sign_at}
 use Rattle.linear_solver.specs.Elimination.{bears}
-use Rattle.linear_solver.specs.declared.step.Step.{Step}
-use Rattle.linear_solver.specs.Divisors.{gcd, divisor}
+use Rattle.solver_rows.specs.declared.step.Step.{Step}
+use Rattle.solver_rows.specs.Divisors.{divisor}
 use Rattle.linear_solver.specs.Numbering.{steps_with, line_with}
 use Rattle.linear_solver.specs.Reducing.{AreDistinct}
+use Rattle.solver_rows.specs.RowsInCells.{AreRising, linear_in, row_in, spread_cells, IsSigned}
 
 -- ---- variables by rising number
-
--- they rise from `low` on
-abbrev pub AreRising : ℕ → List ℕ → Type 0
-AreRising low [] = Unit {0}
-AreRising low (v ∷ vs) = (low ≤ v) × AreRising (suc v) vs
 
 -- a variable put to its place among rising ones
 unfoldable pub with_risen : ℕ → List ℕ → List ℕ
@@ -45,25 +35,7 @@ abbrev pub AreClosed : List ℕ → List Linear → Type 0
 AreClosed vs [] = Unit {0}
 AreClosed vs (row ∷ rows) = (bears vs row ≡ true → are_among vs row.terms ≡ true) × AreClosed vs rows
 
--- ---- rows in cells
-
--- the terms of coefficients of these variables: those that are not 0
-unfoldable pub sparse : List ℕ → List ℤ → List Term
-sparse [] cells = []
-sparse (v ∷ vars) [] = []
-sparse (v ∷ vars) (c ∷ cells) = with_multiple v c (sparse vars cells)
-
-abbrev pub linear_in : List ℕ → List ℤ → Linear
-linear_in vars [] = record { terms = []; constant = pos 0 }
-linear_in vars (c ∷ cells) = record { terms = sparse vars cells; constant = c }
-
-abbrev pub row_in : List ℕ → List ℤ → Side → Row
-row_in vars cells side = row_of side.source side.by (linear_in vars cells)
-
--- the coefficients of these variables in rising terms
-unfoldable pub spread_cells : List ℕ → List Term → List ℤ
-spread_cells [] ts = []
-spread_cells (v ∷ vars) ts = front_coefficient v ts ∷ spread_cells vars (behind v ts)
+-- ---- rows in the cells of a pool
 
 -- what stands in the cells of a row of a system: the cells from 1 on of its row of the pool, behind its constant
 abbrev pub cells_of : List (List ℤ) → Stored → List ℤ
@@ -76,15 +48,6 @@ unfoldable pub rows_of : List ℕ → List (List ℤ) → List Stored → List R
 rows_of vars rows [] = []
 rows_of vars rows (s ∷ sides) = stored_row vars rows s ∷ rows_of vars rows sides
 
--- beside the cells stand their signs
-abbrev pub IsSigned : List ℕ → List ℤ → Side → Type 0
-IsSigned vars cells side = AreSigns side.signs (spread_cells vars (linear_in vars cells).terms)
-
--- these are the signs of the coefficients of a row
-pub record AreSignsIn (vars : List ℕ) (s : Signs) (r : Row) : Type 0 where
-  pub sign : (sign : Sign) (column : ℕ) → column < length vars → sign_at sign s column ≡ has_sign sign (slice_index_or vars column 0) r
-  pub none : no_signs s ≡ no_terms r.terms
-
 -- beside each row stand its signs
 abbrev pub AreSigned : List ℕ → List Stored → List Row → Type 0
 AreSigned vars [] rows = Unit {0}
@@ -94,15 +57,6 @@ AreSigned vars (s ∷ sides) (r ∷ rows) = AreSigns s.side.signs (spread_cells 
 -- where there is none
 abbrev pub no_row : Row
 no_row = record { terms = []; constant = pos 0; source = Line 0; by = pos 1 }
-
--- the greatest common divisor of the coefficients, and 0 where there are none
-unfoldable pub numbers_divisor : ℕ → List ℤ → ℕ
-numbers_divisor g [] = g
-numbers_divisor g (c ∷ cells) = numbers_divisor (gcd g (unsigned_abs c)) cells
-
-abbrev pub cells_divisor : List ℤ → ℕ
-cells_divisor [] = 0
-cells_divisor (c ∷ cells) = numbers_divisor 0 cells
 
 -- ---- numbering
 

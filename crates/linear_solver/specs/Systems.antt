@@ -1,51 +1,14 @@
--- Systems of rows: how a row is tightened, how a list of rows is reduced, and what comes of two rows.
-use Rattle.std.specs.Prelude.{ℕ, ◌/◌, ℤ, pos, Bool, ◌&&◌, List, [], ◌∷◌, length, filter, ◌==◌, nat_lt, int_lt, int_le, unsigned_abs, Result, Ok, Err, if◌then◌else◌}
-use Rattle.std.specs.Ordering.{int_eq}
-use Rattle.std.specs.Cmp.Lexicographic.{pointwise}
+-- Systems of rows: how a list of rows is reduced, and what the next system is.
+use Rattle.std.specs.Prelude.{ℕ, List, [], ◌∷◌, length, filter, nat_lt, int_lt, Result, Ok, Err, if◌then◌else◌}
 use Rattle.xan_lin.specs.Linear.{Linear, are_within}
-use Rattle.xan_lin.specs.declared.term.Term.{Term}
 use Rattle.xan_lin.specs.declared.term.LimitKind.{LimitKind}
 use Rattle.xan_lin.specs.declared.term.LimitKind.TheVariants as limit
-use Rattle.index_sorts.specs.Known.{same_term, no_terms}
-use Rattle.proof_lines.specs.Rows.{cut_of, combination_of}
-use Rattle.linear_solver.specs.declared.step.Step.TheVariants as step
-use Rattle.linear_solver.specs.declared.source.Source.{Source}
-use Rattle.linear_solver.specs.declared.source.Source.TheVariants.{Line, New}
-use Rattle.linear_solver.specs.declared.source.Sign.{Sign}
-use Rattle.linear_solver.specs.declared.source.Sign.TheVariants.{Positive, Negative, Zero}
-use Rattle.linear_solver.specs.Divisors.{gcd, divisor}
-
--- a row, where it comes from, and what it was divided by since then, which is 1 where it was not
-pub record Row : Type 0 where
-  pub terms : List Term
-  pub constant : ℤ
-  pub source : Source
-  pub by : ℤ
-
-abbrev pub linear_of : Row → Linear
-linear_of r = record { terms = r.terms; constant = r.constant }
-
-abbrev pub row_of : Source → ℤ → Linear → Row
-row_of source by x = record { terms = x.terms; constant = x.constant; source = source; by = by }
-
--- ---- tightening
-
-abbrev pub divided_by : ℕ → Source → Linear → Row
-divided_by g source x = if nat_lt 1 g then row_of source (pos g) (cut_of x (pos g)) else row_of source (pos 1) x
-
--- the row with its coefficients over their greatest common divisor, and the floor of its constant over it
-unfoldable pub tight : Source → Linear → Row
-tight source x = divided_by (divisor x.terms) source x
+use Rattle.solver_rows.specs.declared.source.Source.{Source}
+use Rattle.solver_rows.specs.declared.source.Sign.{Sign}
+use Rattle.solver_rows.specs.declared.source.Sign.TheVariants.{Positive, Negative, Zero}
+use Rattle.solver_rows.specs.SystemRows.{Row, linear_of, tight, same_terms, holds, has_sign, sum_of_two, sum_source, size}
 
 -- ---- reducing
-
--- the coefficients are equal
-abbrev pub same_terms : List Term → List Term → Bool
-same_terms ts us = pointwise same_term ts us
-
--- a row without variables and with a constant of at least 0
-abbrev pub holds : Row → Bool
-holds r = no_terms r.terms && int_le (pos 0) r.constant
 
 -- of two rows with equal coefficients the one with the least constant, and of equal rows the first
 abbrev pub lesser : Row → Row → Row
@@ -67,43 +30,8 @@ reduced_onto made (r ∷ rows) = reduced_onto (settle made (tight r.source (line
 
 -- ---- the rows by the coefficient of a variable
 
-unfoldable pub coefficient : ℕ → List Term → ℤ
-coefficient var [] = pos 0
-coefficient var (t ∷ ts) = if t.var == var then t.coef else coefficient var ts
-
-abbrev pub is_sign : Sign → ℤ → Bool
-is_sign Positive n = int_lt (pos 0) n
-is_sign Negative n = int_lt n (pos 0)
-is_sign Zero n = int_eq n (pos 0)
-
-abbrev pub has_sign : Sign → ℕ → Row → Bool
-has_sign sign var r = is_sign sign (coefficient var r.terms)
-
 unfoldable pub with_sign : Sign → ℕ → List Row → List Row
 with_sign sign var rows = filter (has_sign sign var) rows
-
--- ---- sums of two rows in which a variable has the coefficients a and -b
-
--- what the first row is multiplied by, and what the second
-abbrev pub first_by : ℕ → ℕ → ℤ
-first_by a b = pos (b / gcd a b)
-
-abbrev pub second_by : ℕ → ℕ → ℤ
-second_by a b = pos (a / gcd a b)
-
--- the step that gave a row of a system
-abbrev pub line_of : Source → ℕ
-line_of (Line n) = n
-line_of (New s) = 0
-
-abbrev pub sum_of_two : ℕ → ℕ → Row → Row → Linear
-sum_of_two a b p n = combination_of (first_by a b) (linear_of p) (second_by a b) (linear_of n)
-
-abbrev pub sum_source : ℕ → ℕ → Row → Row → Source
-sum_source a b p n = New (step.Comb (first_by a b) (line_of p.source) (second_by a b) (line_of n.source))
-
-abbrev pub size : ℕ → Row → ℕ
-size var r = unsigned_abs (coefficient var r.terms)
 
 -- ---- the next system
 

@@ -1,8 +1,8 @@
 -- The steps from which one of them is made, counted anew.
 use Rattle.std.specs.Prelude.{ℕ, zero, suc, ◌+◌, take, Bool, true, false, List, [], ◌∷◌, ◌++◌, length, replicate, slice_set, if◌then◌else◌}
 use Rattle.std.specs.List.{slice_index_or}
-use Rattle.linear_solver.specs.declared.step.Step.{Step}
-use Rattle.linear_solver.specs.declared.step.Step.TheVariants.{Hyp, Goal, Comb, Cut}
+use Rattle.solver_rows.specs.declared.step.Step.{Step}
+use Rattle.solver_rows.specs.declared.step.Step.TheVariants.{Hyp, Goal, Comb, Cut}
 
 -- ---- which steps are needed
 

@@ -1,17 +1,29 @@
 //! What a look at a system shows.
-ghost use Rattle.std.specs.Prelude.{◌≡◌, ◌≤◌, ◌<◌, ◌^◌, length, None};
+ghost use Rattle.std.specs.Prelude.{◌≡◌, ◌≤◌, ◌<◌, length, None};
 ghost use Rattle.linear_solver.specs.Choosing.{is_before, better, choice_of, candidate, best_from, refuted_by, look_at, cannot_hold};
 ghost use Rattle.std.specs.List.{slice_index_or};
 ghost use Rattle.linear_solver.specs.Systems.{with_sign};
-ghost use Rattle.linear_solver.specs.declared.source.Sign.TheVariants.{Positive, Negative};
+ghost use Rattle.solver_rows.specs.declared.source.Sign.TheVariants.{Positive, Negative};
 ghost use Rattle.linear_solver.specs.Region.{no_row};
 
 use crate::counts::{Counts, count_all};
-use crate::source::Look;
 use crate::workspace::Workspace;
 
 /// The most rows of a system.
 pub(crate) const MOST_ROWS: usize = 2000;
+
+/// What a look at a system shows.
+#[derive(Clone, Copy, Drop)]
+pub enum Look {
+    /// It has too many rows.
+    Full,
+    /// The row that the step of this number gives cannot hold.
+    Refuted(u32),
+    /// No variable is left.
+    Spent,
+    /// This variable is to be taken next.
+    Take(u32),
+}
 
 /// A variable, and how many pairs of a positive and a negative row it has.
 #[derive(Clone, Copy, Drop)]

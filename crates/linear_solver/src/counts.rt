@@ -3,10 +3,10 @@ ghost use Rattle.std.specs.Prelude.{◌≡◌, ℕ, ◌≤◌, ◌<◌, ◌+◌,
 ghost use Rattle.std.specs.Int.{bit_at};
 ghost use Rattle.std.specs.List.{slice_index_or};
 ghost use Rattle.linear_solver.specs.Systems.{with_sign};
-ghost use Rattle.linear_solver.specs.declared.source.Sign.TheVariants.{Positive, Negative};
+ghost use Rattle.solver_rows.specs.declared.source.Sign.TheVariants.{Positive, Negative};
 
-use crate::signs::next_column;
 use crate::workspace::Workspace;
+use solver_rows::next_column;
 
 /// How many rows have a positive coefficient, and how many a negative one, by column.
 #[derive(Drop)]

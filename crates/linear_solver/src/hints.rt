@@ -40,10 +40,7 @@ impl Hints {
 
     /// The place that was kept last for this hash. One that has another hash is past all.
     pub(crate) fn first(&self, hash: u64) -> usize {
-        match self.heads.get(hash as usize % HEADS) {
-            Some(place) => self.of_hash(hash, *place as usize),
-            None => usize::MAX,
-        }
+        self.of_hash(hash, self.head(hash) as usize)
     }
 
     /// The place that was kept before this one for its hash.
@@ -56,26 +53,20 @@ impl Hints {
 
     /// Keeps a place for a hash.
     pub(crate) fn put(&mut self, hash: u64, place: usize) {
-        let before = match self.heads.get(hash as usize % HEADS) {
-            Some(before) => *before,
-            None => 0,
-        };
-        if let Some(link) = self.links.get_mut(place) {
-            *link = before;
-        }
-        if let Some(kept) = self.hashes.get_mut(place) {
-            *kept = hash;
-        }
-        self.begin_at(hash, place);
-    }
-
-    // Makes the place the first guess for a hash.
-    fn begin_at(&mut self, hash: u64, place: usize) {
-        let Ok(place) = u32::try_from(place) else {
+        let Ok(number) = u32::try_from(place) else {
             return;
         };
-        if let Some(head) = self.heads.get_mut(hash as usize % HEADS) {
-            *head = place;
+        let before = self.head(hash);
+        write_place(&mut self.links, place, before);
+        write_hash(&mut self.hashes, place, hash);
+        write_place(&mut self.heads, hash as usize % HEADS, number);
+    }
+
+    // The first guess for a hash.
+    fn head(&self, hash: u64) -> u32 {
+        match self.heads.get(hash as usize % HEADS) {
+            Some(place) => *place,
+            None => 0,
         }
     }
 
@@ -85,5 +76,19 @@ impl Hints {
             Some(kept) if *kept == hash => place,
             _ => usize::MAX,
         }
+    }
+}
+
+// Writes a place at this number, where there is one.
+fn write_place(places: &mut Vec<u32>, at: usize, place: u32) {
+    if at < places.len() {
+        places[at] = place;
+    }
+}
+
+// Writes a hash at this number, where there is one.
+fn write_hash(hashes: &mut Vec<u64>, at: usize, hash: u64) {
+    if at < hashes.len() {
+        hashes[at] = hash;
     }
 }

@@ -1,44 +1,34 @@
 //! Elimination that leaves proofs.
 //!
 //! [`refute`] answers exactly what the elimination of variables says of a goal over the rows of a context. Where it is `Proved`, its steps
-//! stand for lines that `proof_lines` accepts, so that the goal is entailed over all integers. It stands on `index_sorts`, `proof_lines`,
-//! `xan_lin` and `xan_pool`.
+//! stand for lines that `proof_lines` accepts, so that the goal is entailed over all integers. It stands on `solver_rows`, `index_sorts`,
+//! `proof_lines`, `xan_lin` and `xan_pool`.
 #![tactic(auto)]
 
 mod answer;
-mod cells;
 mod choose;
 mod cone;
 mod counts;
-mod divisors;
 mod first;
 mod forms;
 mod found;
-mod hash;
 mod hints;
 mod laws;
 mod line_buf;
 mod next;
 mod numbering;
-mod numbers;
 mod places;
 mod rounds;
-mod side;
-mod signs;
 mod solver;
-mod source;
-mod step;
 mod steps;
-mod tight;
 mod tracing;
 mod variables;
 mod workspace;
 
 pub use crate::answer::{Answer, SOLVER_ROWS};
-pub use crate::choose::Choice;
+pub use crate::choose::{Choice, Look};
 pub use crate::laws::{proved_goals_are_entailed, steps_mean_a_proof};
 pub use crate::line_buf::LineBuf;
 pub use crate::solver::refute;
-pub use crate::source::Look;
-pub use crate::step::Step;
+pub use solver_rows::Step;
 pub use xan_lin::Memory;

@@ -10,11 +10,11 @@ use crate::answer::Answer;
 use crate::cone::find_cone;
 use crate::found::Found;
 use crate::rounds::in_cone;
-use crate::step::Step;
 use crate::steps::Steps;
 use crate::workspace::Workspace;
 use index_sorts::Context;
 use proof_lines::Line;
+use solver_rows::Step;
 use std::alloc::Global;
 use std::marker::Model;
 use xan_lin::{Form, LimitKind, Memory};
@@ -32,7 +32,7 @@ pub struct LineBuf {
 
 impl Model for LineBuf {
     ghost use Rattle.std.specs.Prelude.{List};
-    ghost use Rattle.linear_solver.specs.declared.step.Step.{Step};
+    ghost use Rattle.solver_rows.specs.declared.step.Step.{Step};
     ghost use Rattle.linear_solver.specs.LineBuffers.{IsLineBuf};
 
     ghost Value = { List Step };
@@ -47,9 +47,9 @@ impl LineBuf {
     pub fn new(alloc: Global) -> Result<LineBuf, Memory>
         ensures { IfOk result (λ buffer. buffer ≡ []) }
     {
+        let found = Found::new(alloc)?;
         let steps = Steps::new(alloc)?;
         let work = Workspace::new(alloc)?;
-        let found = Found::new(alloc)?;
         Ok(LineBuf { steps, work, found })
     }
 
@@ -103,12 +103,23 @@ fn lines_of(alloc: Global, hyps: &[Form], steps: &[Step]) -> Result<Vec<Line>, M
     let Ok(mut lines) = Vec::with_capacity(alloc, steps.len()) else {
         return Err(Memory);
     };
+    match put_lines(hyps, steps, &mut lines) {
+        Ok(()) => Ok(lines),
+        Err(stop) => Err(stop),
+    }
+}
+
+// Puts the lines that the steps mean over these hypotheses to an empty list.
+fn put_lines(hyps: &[Form], steps: &[Step], lines: &mut Vec<Line>) -> Result<(), Memory>
+    requires { lines.old.items ≡ [] }
+    ensures { IfOk result (λ _. lines.new.items ≡ lines_meant hyps.now steps.now) }
+{
     'steps: for step in steps {
         let Ok(()) = lines.push(line_of(hyps, step)) else {
             return Err(Memory);
         };
     }
-    Ok(lines)
+    Ok(())
 }
 
 // The line that a step means.

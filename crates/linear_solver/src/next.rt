@@ -1,19 +1,15 @@
 //! The next system: the rows without a variable, and the sums of those with it.
-ghost use Rattle.std.specs.Prelude.{◌≡◌, ◌+◌, ◌^◌, ◌<◌, ◌≤◌, [], length, IsTrue, MatchOption, false, true, if◌then◌else◌, Ok, Err};
+ghost use Rattle.std.specs.Prelude.{◌≡◌, ◌^◌, ◌<◌, ◌≤◌, [], length, if◌then◌else◌, Ok, Err};
 ghost use Rattle.std.specs.List.{slice_index_or};
-ghost use Rattle.xan_lin.specs.Linear.{Linear, are_within, all_within};
-ghost use Rattle.linear_solver.specs.Systems.{reduced_onto, tight, linear_of, has_sign, with_sign, size, sum_of_two, sum_source, limited, settle, with_sum, with_sums, with_all_sums, next_rows};
-ghost use Rattle.linear_solver.specs.declared.source.Sign.TheVariants.{Positive, Negative, Zero};
+ghost use Rattle.solver_rows.specs.SystemRows.{has_sign, size};
+ghost use Rattle.linear_solver.specs.Systems.{with_sign, limited, settle, with_sum, with_sums, with_all_sums, next_rows};
+ghost use Rattle.solver_rows.specs.declared.source.Sign.TheVariants.{Positive, Negative};
 ghost use Rattle.linear_solver.specs.Reducing.{Gives};
-ghost use Rattle.linear_solver.specs.Region.{IsOpen, no_row, linear_in, row_in, IsSummed};
+ghost use Rattle.linear_solver.specs.Region.{IsOpen, no_row, IsSummed};
 
-use crate::cells::combine;
 use crate::choose::MOST_ROWS;
-use crate::divisors::multipliers_for;
-use crate::source::{Sign, Source};
-use crate::step::Step;
-use crate::tight::{NewRow, tighten};
 use crate::workspace::Workspace;
+use solver_rows::{NewRow, Sign, Source, Step, combine, multipliers_for, tighten};
 use xan_lin::LimitKind;
 
 /// Makes the next system: the rows without the variable of this column, reduced, and then the sums of two rows in which it goes out.

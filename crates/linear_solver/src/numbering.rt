@@ -3,11 +3,9 @@ ghost use Rattle.std.specs.Prelude.{◌≡◌, ◌+◌, ◌*◌, ◌<◌, ◌≤
 ghost use Rattle.linear_solver.specs.Numbering.{with_source, source_line, with_cut, cut_line, steps_with, line_with};
 ghost use Rattle.linear_solver.specs.Region.{numbered_sides, stored_at};
 
-use crate::places::put_stored;
-use crate::side::{Side, Stored};
-use crate::source::Source;
-use crate::step::Step;
+use crate::places::{Stored, put_stored};
 use crate::steps::Steps;
+use solver_rows::{Side, Source, Step};
 
 /// The rows as steps give them: each in order gets its steps, for which there is room.
 #[tactic(auto, unfolding(crate::specs::Region::numbered_sides))]

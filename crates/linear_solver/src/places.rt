@@ -3,10 +3,17 @@ ghost use Rattle.std.specs.Prelude.{◌≡◌, ◌+◌, ◌<◌, ◌≤◌, [], 
 ghost use Rattle.std.specs.List.{slice_index_or};
 ghost use Rattle.linear_solver.specs.Region.{AreIn, has_none, without, moved, placed_from};
 
-use crate::side::Stored;
-use crate::source::Sign;
+use solver_rows::{Side, Sign};
 use std::mem;
 use xan_pool::{Mark, RowId, RowPool};
+
+/// A row of a system: what is kept beside its cells, its constant, and the place of its coefficients in the pool.
+#[derive(Clone, Copy, Drop)]
+pub(crate) struct Stored {
+    pub(crate) side: Side,
+    pub(crate) constant: i64,
+    pub(crate) place: usize,
+}
 
 /// The coefficients of a row, of so many variables.
 pub(crate) fn coefficients_of<'a>(pool: &'a RowPool, stored: &Stored, count: usize) -> &'a [i64]

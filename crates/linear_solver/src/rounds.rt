@@ -6,10 +6,9 @@ ghost use Rattle.linear_solver.specs.Solving.{Answers};
 ghost use Rattle.linear_solver.specs.Region.{AreClosed, HasRoom};
 
 use crate::answer::Answer;
-use crate::choose::look_at;
+use crate::choose::{Look, look_at};
 use crate::first::first_rows;
 use crate::next::next_rows;
-use crate::source::Look;
 use crate::steps::Steps;
 use crate::variables::column_of;
 use crate::workspace::Workspace;

@@ -2,8 +2,8 @@
 ghost use Rattle.std.specs.Prelude.{◌≡◌, ◌+◌, ◌<◌, ◌≤◌, [], ◌∷◌, ◌++◌, length, take, IfOk, vec_capacity};
 ghost use Rattle.linear_solver.specs.Tracing.{traced};
 
-use crate::step::Step;
 use crate::tracing::{kept, needed, up_to};
+use solver_rows::Step;
 use std::alloc::Global;
 use std::marker::Model;
 use std::mem;
@@ -24,7 +24,7 @@ pub(crate) struct Steps {
 
 impl Model for Steps {
     ghost use Rattle.std.specs.Prelude.{List};
-    ghost use Rattle.linear_solver.specs.declared.step.Step.{Step};
+    ghost use Rattle.solver_rows.specs.declared.step.Step.{Step};
     ghost use Rattle.linear_solver.specs.Buffers.{IsBuffer};
 
     ghost Value = { List Step };

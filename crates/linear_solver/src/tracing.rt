@@ -3,7 +3,7 @@ ghost use Rattle.std.specs.Prelude.{◌≡◌, ◌+◌, take, ◌≤◌, ◌^◌
 ghost use Rattle.std.specs.List.{slice_index_or};
 ghost use Rattle.linear_solver.specs.Tracing.{with_marks, marked_at, marked_below, needed, renumbered, kept_onto};
 
-use crate::step::Step;
+use solver_rows::Step;
 
 /// The steps up to that of this number.
 pub(crate) fn up_to(steps: &[Step], line: u32) -> &[Step]

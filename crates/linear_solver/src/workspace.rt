@@ -4,27 +4,26 @@ ghost use Rattle.std.specs.List.{list_any, slice_index_or};
 ghost use Rattle.xan_lin.specs.Linear.{all_within};
 ghost use Rattle.xan_lin.specs.declared.term.Term.{Term};
 ghost use Rattle.proof_lines.specs.Cells.{AreDifferent};
-ghost use Rattle.linear_solver.specs.Systems.{linear_of, line_of, same_terms, coefficient, settle, lesser, reduced_onto, with_sign};
-ghost use Rattle.linear_solver.specs.Divisors.{divisor};
-ghost use Rattle.linear_solver.specs.declared.source.Sign.TheVariants.{Zero};
+ghost use Rattle.solver_rows.specs.SystemRows.{linear_of, line_of, same_terms, coefficient};
+ghost use Rattle.linear_solver.specs.Systems.{settle, lesser, reduced_onto, with_sign};
+ghost use Rattle.solver_rows.specs.Divisors.{divisor};
+ghost use Rattle.solver_rows.specs.declared.source.Sign.TheVariants.{Zero};
 ghost use Rattle.linear_solver.specs.Numbering.{numbered};
 ghost use Rattle.linear_solver.specs.Reducing.{IsPlace, AreDistinct};
-ghost use Rattle.linear_solver.specs.Signing.{AreSigns};
-ghost use Rattle.linear_solver.specs.Region.{AreRising, risen, linear_in, row_in, no_row, idle, HasRoom, IsSettled, IsSigned, AreSignsIn, spread_cells};
+ghost use Rattle.solver_rows.specs.Signing.{AreSigns};
+ghost use Rattle.solver_rows.specs.RowsInCells.{AreRising, linear_in, row_in, IsSigned, AreSignsIn, spread_cells};
+ghost use Rattle.linear_solver.specs.Region.{risen, no_row, idle, HasRoom, IsSettled};
 
-use crate::cells::{Cells, WIDTH, are_same, coefficients, constant_of, padded};
 use crate::choose::MOST_ROWS;
-use crate::hash::hash;
 use crate::hints::Hints;
 use crate::numbering::number;
-use crate::places::{coefficients_of, gather, keep, put_stored};
-use crate::side::Stored;
-use crate::signs::Signs;
-use crate::source::Source;
+use crate::places::{Stored, coefficients_of, gather, keep, put_stored};
 use crate::steps::Steps;
-use crate::tight::NewRow;
 use crate::variables::put_risen;
 use arrayvec::ArrayVec;
+use solver_rows::{
+    Cells, NewRow, Signs, Source, WIDTH, are_same, coefficients, constant_of, hash, padded,
+};
 use std::alloc::Global;
 use std::marker::Model;
 use std::mem;

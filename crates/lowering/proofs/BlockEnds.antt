@@ -4,11 +4,11 @@ use Rattle.xanadu_tree.specs.BodyRules.{completes, completes_all}
 use Rattle.xanadu_tree.specs.Plain as core
 use Rattle.three_address.specs.declared.instruction.LowInstr.{LowInstr}
 use Rattle.lowering.specs.CodeBlocks.{stops}
-use Rattle.lowering.specs.Frames.{Frame, operand_place}
-use Rattle.lowering.specs.OneInstruction.{Aim, jump, returned, one_if, jump_if, label_if}
+use Rattle.value_lowering.specs.Frames.{Frame, operand_place}
+use Rattle.value_lowering.specs.OneInstruction.{Aim, jump, returned, one_if, jump_if, label_if}
 use Rattle.lowering.specs.StatementCode.{statement_size, block_size, is_stated, first_at, second_at, meet_at, behind_loop, unless, return_code, statement_code, block_code, statement_labels, block_labels}
 use Rattle.lowering.specs.TestCode.{turned, inner_aim, inner_on, past_parts, test_size, parts_size, test_code, parts_code, test_labels, parts_labels}
-use Rattle.lowering.specs.ValueCode.{operand_at}
+use Rattle.value_lowering.specs.ValueCode.{operand_at}
 use Rattle.lowering.proofs.CodeSizes.{Long, test_long, parts_long, statement_long, block_long}
 use Rattle.lowering.proofs.CodeTargets.{Holds, holds_none, holds_and, holds_more, if_holds, holds_weaker}
 

@@ -4,13 +4,13 @@ use Rattle.xanadu_tree.specs.BodyRules.{completes_all}
 use Rattle.xanadu_tree.specs.Plain as core
 use Rattle.typed_core.specs.Places.{behind}
 use Rattle.three_address.specs.declared.instruction.LowInstr.{LowInstr}
-use Rattle.lowering.specs.Frames.{Frame, operand_place}
+use Rattle.value_lowering.specs.Frames.{Frame, operand_place}
 use Rattle.lowering.specs.Lowered.{leads, numbered, renumbered}
-use Rattle.lowering.specs.OneInstruction.{Aim, branch, truth_branch, truth_op, one_if, jump_if}
+use Rattle.value_lowering.specs.OneInstruction.{Aim, branch, truth_branch, truth_op, one_if, jump_if}
 use Rattle.lowering.specs.StatementCode.{statement_size, first_at, second_at, behind_loop, unless, return_code, statement_code, block_code}
 use Rattle.lowering.specs.TestCode.{leaf_code, turned, inner_aim, past_parts, test_size, test_code, parts_code}
 use Rattle.lowering.specs.TestLeaves.{is_conditional, conditional_branches, test_leaves, parts_leaves, statement_leaves, block_leaves}
-use Rattle.lowering.specs.ValueCode.{operand_at}
+use Rattle.value_lowering.specs.ValueCode.{operand_at}
 use Rattle.lowering.proofs.StraightCode.{Each, GoesOn, Straight, value_straight, operand_straight, straight_end, straight_and}
 
 -- code has so many conditional branches

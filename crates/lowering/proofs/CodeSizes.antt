@@ -3,11 +3,11 @@ use Rattle.std.proofs.Common.{◌≡◌, ℕ, suc, ◌+◌, List, [], ◌∷◌,
 use Rattle.xanadu_tree.specs.Plain as core
 use Rattle.typed_core.specs.Places.{behind}
 use Rattle.three_address.specs.declared.instruction.LowInstr.{LowInstr}
-use Rattle.lowering.specs.Frames.{Frame, temporary, operand_place}
-use Rattle.lowering.specs.OneInstruction.{Aim, compared, branch, one_if, jump_if}
+use Rattle.value_lowering.specs.Frames.{Frame, temporary, operand_place}
+use Rattle.value_lowering.specs.OneInstruction.{Aim, compared, branch, one_if, jump_if}
 use Rattle.lowering.specs.StatementCode.{return_size, statement_size, block_size, first_at, second_at, return_code, statement_code, block_code}
 use Rattle.lowering.specs.TestCode.{leaf_size, leaf_code, turned, inner_aim, test_size, parts_size, test_code, parts_code}
-use Rattle.lowering.specs.ValueCode.{operand_size, value_size, operands_size, links_size, operand_code, value_code, operands_code, links_code, operand_at, size_at}
+use Rattle.value_lowering.specs.ValueCode.{operand_size, value_size, operands_size, links_size, operand_code, value_code, operands_code, links_code, operand_at, size_at}
 
 pub record Long (code : List LowInstr) (size : ℕ) : Type 0 where
   pub is : length code ≡ size

@@ -5,12 +5,12 @@ use Rattle.xanadu_tree.specs.KindRules.{IsAmong}
 use Rattle.xanadu_tree.specs.Plain as core
 use Rattle.typed_core.specs.Places.{behind}
 use Rattle.three_address.specs.declared.instruction.LowInstr.{LowInstr}
-use Rattle.lowering.specs.Frames.{Frame, operand_place}
+use Rattle.value_lowering.specs.Frames.{Frame, operand_place}
 use Rattle.lowering.specs.Lowered.{leads}
-use Rattle.lowering.specs.OneInstruction.{Aim, branch, jump_if, label_if}
+use Rattle.value_lowering.specs.OneInstruction.{Aim, branch, jump_if, label_if}
 use Rattle.lowering.specs.StatementCode.{statement_size, meet, jumps, first_at, second_at, meet_at, behind_loop, unless, return_code, statement_code, block_code, statement_labels, block_labels}
 use Rattle.lowering.specs.TestCode.{leaf_code, turned, inner_aim, inner_to, past_parts, test_size, test_code, parts_code, test_labels, parts_labels}
-use Rattle.lowering.specs.ValueCode.{operand_at}
+use Rattle.value_lowering.specs.ValueCode.{operand_at}
 use Rattle.lowering.proofs.StraightCode.{Each, each_and, each_weaker, GoesOn, Straight, value_straight, operand_straight}
 
 -- ---- truth values

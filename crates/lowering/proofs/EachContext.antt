@@ -41,10 +41,10 @@ use Rattle.typed_core.specs.declared.goal.GoalAt.{GoalAt}
 use Rattle.three_address.specs.Instructions.{Instruction, instruction_of}
 use Rattle.three_address.specs.Typing.{ruled_in, with_types, state_of}
 use Rattle.three_address.specs.declared.instruction.LowInstr.{LowInstr}
-use Rattle.lowering.specs.Frames.{Frame, kind_found}
+use Rattle.value_lowering.specs.Frames.{Frame, kind_found}
 use Rattle.lowering.specs.StatementCode.{statement_code, unless}
 use Rattle.lowering.specs.TestCode.{test_size, test_code}
-use Rattle.lowering.specs.ValueCode.{value_size, operand_places, value_code}
+use Rattle.value_lowering.specs.ValueCode.{value_size, operand_places, value_code}
 use Rattle.lowering.proofs.LoweredSources.{two, number, pair}
 
 -- ---- what stands throughout

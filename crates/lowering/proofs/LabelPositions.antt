@@ -4,7 +4,7 @@ use Rattle.std.proofs.Common.{◌≡◌, ℕ, suc, ◌+◌, ◌≤◌, List, [],
 use Rattle.xanadu_tree.specs.BodyRules.{completes, completes_all}
 use Rattle.xanadu_tree.specs.Plain as core
 use Rattle.lowering.specs.CodeBlocks.{Spaced}
-use Rattle.lowering.specs.OneInstruction.{one_if, label_if}
+use Rattle.value_lowering.specs.OneInstruction.{one_if, label_if}
 use Rattle.lowering.specs.StatementCode.{statement_size, block_size, return_size, is_stated, first_at, second_at, meet_at, behind_loop, statement_labels, block_labels}
 use Rattle.lowering.specs.TestCode.{inner_on, past_parts, test_size, parts_size, test_labels, parts_labels}
 

@@ -6,12 +6,12 @@ use Rattle.xanadu_tree.specs.Plain as core
 use Rattle.typed_core.specs.Places.{behind}
 use Rattle.three_address.specs.declared.instruction.LowInstr.{LowInstr}
 use Rattle.lowering.specs.CodeBlocks.{HasJump}
-use Rattle.lowering.specs.Frames.{Frame, operand_place}
+use Rattle.value_lowering.specs.Frames.{Frame, operand_place}
 use Rattle.lowering.specs.Lowered.{leads}
-use Rattle.lowering.specs.OneInstruction.{Aim, truth_op, truth_branch, branch, jump, jump_if, label_if}
+use Rattle.value_lowering.specs.OneInstruction.{Aim, truth_op, truth_branch, branch, jump, jump_if, label_if}
 use Rattle.lowering.specs.StatementCode.{statement_size, is_stated, first_at, second_at, meet_at, behind_loop, unless, statement_code, block_code, statement_labels, block_labels}
 use Rattle.lowering.specs.TestCode.{leaf_code, turned, inner_aim, past_parts, test_size, test_code, parts_code, test_labels, parts_labels}
-use Rattle.lowering.specs.ValueCode.{operand_at}
+use Rattle.value_lowering.specs.ValueCode.{operand_at}
 use Rattle.lowering.proofs.CodeTargets.{Holds, holds_none, holds_and, holds_more, if_holds, holds_weaker}
 
 -- ---- code with a jump to a target

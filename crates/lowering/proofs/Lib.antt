@@ -13,10 +13,8 @@ pub mod BlockEnds
 pub mod StopsFollowed
 pub mod PlacesNamed
 pub mod BranchesCounted
-pub mod KindsFound
 pub mod NumbersFound
 pub mod LoweredFunctions
-pub mod EmittedCode
 pub mod EmittedTests
 pub mod EmittedBlocks
 pub mod NumbersMade

@@ -4,11 +4,11 @@ use Rattle.xanadu_tree.specs.Plain.{Fun, Program}
 use Rattle.three_address.specs.declared.instruction.LowInstr.{LowInstr}
 use Rattle.three_address.specs.declared.instruction.Op22.TheVariants as op
 use Rattle.three_address.proofs.LowSources.{instr, plain, literal, three, jump, calling as call, sum_code, down_code}
-use Rattle.lowering.specs.Frames.{kind_found}
+use Rattle.value_lowering.specs.Frames.{kind_found}
 use Rattle.lowering.specs.Lowered.{body_of, number_of, places_reach, code_reach}
 use Rattle.lowering.specs.StatementCode.{statement_size, statement_code, statement_labels}
 use Rattle.lowering.specs.TestCode.{test_size, test_code, test_labels}
-use Rattle.lowering.specs.ValueCode.{value_size, operand_places, value_code}
+use Rattle.value_lowering.specs.ValueCode.{value_size, operand_places, value_code}
 use Rattle.lowering.proofs.LoweredSources as source
 
 abbrev Is : Program → Fun → (places : ℕ) → List LowInstr → (labels : List ℕ) → Type 0

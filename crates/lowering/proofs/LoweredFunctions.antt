@@ -11,9 +11,9 @@ use Rattle.typed_core.specs.Places.{places_of}
 use Rattle.three_address.specs.declared.function.LowFun.{LowFun}
 use Rattle.three_address.specs.declared.instruction.LowInstr.{LowInstr}
 use Rattle.lowering.specs.CodeBlocks.{stops, Spaced, EndsBefore, InBlocks, HasJump}
-use Rattle.lowering.specs.Frames.{frame_of}
+use Rattle.value_lowering.specs.Frames.{frame_of}
 use Rattle.lowering.specs.Lowered.{leads, number_of, next_number, renumbered, numbered, NamesPosition, labels_of, code_of, body_of, function_of, functions_of}
-use Rattle.lowering.specs.OneInstruction.{one_if}
+use Rattle.value_lowering.specs.OneInstruction.{one_if}
 use Rattle.lowering.specs.StatementCode.{block_size}
 use Rattle.lowering.proofs.BlockEnds.{StopBefore, last_before, block_ends, block_last}
 use Rattle.lowering.proofs.CodeSizes.{block_long}

@@ -21,11 +21,11 @@ use Rattle.three_address.specs.Instructions.{instruction_of}
 use Rattle.three_address.specs.Machine.{places_of, words_in, with_words, step, run}
 use Rattle.three_address.specs.declared.function.Lowered.{Lowered}
 use Rattle.three_address.proofs.LowSources.{sum_sig, number_sig, sum_program, calls_program}
-use Rattle.lowering.specs.Frames.{kind_found}
+use Rattle.value_lowering.specs.Frames.{kind_found}
 use Rattle.lowering.specs.Lowered.{functions_of, number_of, places_reach, code_reach}
 use Rattle.lowering.specs.StatementCode.{statement_size, statement_code, statement_labels}
 use Rattle.lowering.specs.TestCode.{test_size, test_code, test_labels}
-use Rattle.lowering.specs.ValueCode.{value_size, operand_places, value_code}
+use Rattle.value_lowering.specs.ValueCode.{value_size, operand_places, value_code}
 use Rattle.lowering.proofs.LoweredSources as source
 
 -- of a run with these signatures, of which the run takes no notice

@@ -43,10 +43,10 @@ use Rattle.three_address.specs.Demands.{Demand, label_demands, places_demands, p
 use Rattle.three_address.specs.Instructions.{Instruction, instruction_of}
 use Rattle.three_address.specs.Typing.{ruled_in, with_types, state_of, stated}
 use Rattle.three_address.specs.declared.instruction.LowInstr.{LowInstr}
-use Rattle.lowering.specs.Frames.{kind_found}
+use Rattle.value_lowering.specs.Frames.{kind_found}
 use Rattle.lowering.specs.StatementCode.{statement_code, statement_labels, statement_size, block_code, block_labels, block_size}
 use Rattle.lowering.specs.TestCode.{test_size, test_code, test_labels}
-use Rattle.lowering.specs.ValueCode.{value_size, operand_places, value_code}
+use Rattle.value_lowering.specs.ValueCode.{value_size, operand_places, value_code}
 use Rattle.lowering.proofs.EachContext.{site, setting, frame, first_ctx, types, before, After, asked_of, unknown, of_variables, read_types}
 use Rattle.lowering.proofs.LoweredSources.{two, number, one, variable, assuming as quantified}
 

@@ -12,12 +12,12 @@ use Rattle.xanadu_tree.specs.KindRules.{Setting, Header, kind_of, IsSomeLink, Ha
 use Rattle.xanadu_tree.specs.Plain as core
 use Rattle.typed_core.specs.Places.{is_put, behind, next_to, put, named_by, named_by_operands, named_by_links, operand_named, leaf_named, test_named, tests_named, return_named, statement_named, statements_named}
 use Rattle.three_address.specs.declared.instruction.LowInstr.{LowInstr}
-use Rattle.lowering.specs.Frames.{Frame, temporary, operand_place}
+use Rattle.value_lowering.specs.Frames.{Frame, temporary, operand_place}
 use Rattle.lowering.specs.Lowered.{places_reach, code_reach}
-use Rattle.lowering.specs.OneInstruction.{Aim, in_order, that_is, branch, truth_branch, compared, literal, jump, jump_if}
+use Rattle.value_lowering.specs.OneInstruction.{Aim, in_order, that_is, branch, truth_branch, compared, literal, jump, jump_if}
 use Rattle.lowering.specs.StatementCode.{return_code, statement_size, first_at, second_at, behind_loop, unless, statement_code, block_code}
 use Rattle.lowering.specs.TestCode.{leaf_code, turned, inner_aim, past_parts, test_size, test_code, parts_code}
-use Rattle.lowering.specs.ValueCode.{operand_places, value_code, operands_code, links_code, operand_at}
+use Rattle.value_lowering.specs.ValueCode.{operand_places, value_code, operands_code, links_code, operand_at}
 
 pub reach_and : (one two : List LowInstr) → code_reach (one ++ two) ≡ max (code_reach one) (code_reach two)
 unfolding code_reach

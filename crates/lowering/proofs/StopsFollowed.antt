@@ -6,11 +6,11 @@ use Rattle.xanadu_tree.specs.Plain as core
 use Rattle.typed_core.specs.Places.{behind}
 use Rattle.three_address.specs.declared.instruction.LowInstr.{LowInstr}
 use Rattle.lowering.specs.CodeBlocks.{stops}
-use Rattle.lowering.specs.Frames.{Frame, operand_place}
-use Rattle.lowering.specs.OneInstruction.{Aim, branch, truth_op, truth_branch, jump, one_if, jump_if, label_if}
+use Rattle.value_lowering.specs.Frames.{Frame, operand_place}
+use Rattle.value_lowering.specs.OneInstruction.{Aim, branch, truth_op, truth_branch, jump, one_if, jump_if, label_if}
 use Rattle.lowering.specs.StatementCode.{statement_size, block_size, return_size, is_stated, first_at, second_at, meet_at, behind_loop, unless, return_code, statement_code, block_code, statement_labels, block_labels}
 use Rattle.lowering.specs.TestCode.{leaf_code, turned, inner_aim, inner_on, past_parts, test_size, parts_size, test_code, parts_code, test_labels, parts_labels}
-use Rattle.lowering.specs.ValueCode.{operand_at, size_at}
+use Rattle.value_lowering.specs.ValueCode.{operand_at, size_at}
 use Rattle.lowering.proofs.CodeSizes.{Long, operand_at_long, test_long, parts_long, statement_long, block_long}
 use Rattle.lowering.proofs.CodeTargets.{Holds, holds_left, holds_right, holds_first, holds_rest, holds_if, false_true}
 use Rattle.lowering.proofs.StraightCode.{Each, GoesOn, Straight, value_straight, operand_straight}

@@ -7,11 +7,11 @@ use Rattle.typed_core.specs.Places.{behind}
 use Rattle.three_address.specs.declared.instruction.LowInstr.{LowInstr}
 use Rattle.three_address.specs.declared.instruction.Op22.{Op22}
 use Rattle.lowering.specs.CodeBlocks.{stops}
-use Rattle.lowering.specs.Frames.{temporary}
+use Rattle.value_lowering.specs.Frames.{temporary}
 use Rattle.lowering.specs.Lowered.{leads}
-use Rattle.lowering.specs.OneInstruction.{op_of}
+use Rattle.value_lowering.specs.OneInstruction.{op_of}
 use Rattle.lowering.specs.TestLeaves.{is_conditional}
-use Rattle.lowering.specs.ValueCode.{operand_code, value_code, operands_code, links_code, operand_at}
+use Rattle.value_lowering.specs.ValueCode.{operand_code, value_code, operands_code, links_code, operand_at}
 
 -- ---- what holds of each instruction
 

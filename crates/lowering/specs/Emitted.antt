@@ -2,30 +2,20 @@
 use Rattle.std.specs.Prelude.{◌≡◌, ℕ, zero, suc, ◌==◌, ◌≤◌, cond, Bool, max, List, [], ◌∷◌, length, map, replicate, Option, Some, None, slice_get, slice_set}
 use Rattle.state_types.specs.declared.closed.Packed.{Packed}
 use Rattle.state_types.specs.declared.closed.Signature.{Signature}
-use Rattle.xanadu_tree.specs.declared.expr.CoreExpr.{CoreExpr}
-use Rattle.xanadu_tree.specs.declared.expr.Op.{Op}
 use Rattle.xanadu_tree.specs.declared.program.CoreFun.{CoreFun}
 use Rattle.xanadu_tree.specs.declared.types.Kind.{Kind}
 use Rattle.xanadu_tree.specs.declared.types.Packing.{Packing}
 use Rattle.xanadu_tree.specs.BodyRules.{completes_all}
 use Rattle.xanadu_tree.specs.KindRules.{kind_of}
 use Rattle.xanadu_tree.specs.Plain as core
-use Rattle.xanadu_tree.specs.PlainOf.{plain_expr, plain_fun}
+use Rattle.xanadu_tree.specs.PlainOf.{plain_fun}
 use Rattle.three_address.specs.declared.function.LowFun.{LowFun}
 use Rattle.three_address.specs.declared.function.Lowered.{Lowered}
 use Rattle.lowering.specs.declared.programs.TheConstants.{MOST_INSTRUCTIONS}
-use Rattle.lowering.specs.Frames.{Frame}
+use Rattle.value_lowering.specs.Frames.{Frame}
 use Rattle.lowering.specs.Lowered.{Body, code_reach, numbered}
-use Rattle.lowering.specs.OneInstruction.{Aim}
+use Rattle.value_lowering.specs.OneInstruction.{Aim}
 use Rattle.lowering.specs.StatementCode.{block_code, block_labels}
-
--- an operator of a chain, with its right operand and its place
-abbrev pub link_of : Op × CoreExpr × ℕ → Op × core.Expr × ℕ
-link_of l = (l.0, plain_expr l.1, l.2)
-
--- where the result of an operator goes that has so many others behind it
-abbrev pub result_of : (many between wanted : ℕ) → ℕ
-result_of many between wanted = cond (many == 0) wanted between
 
 -- what a part is that has so many others behind it
 abbrev pub turn_of : {A : Type 0} → (many : ℕ) → (inner last : A) → A

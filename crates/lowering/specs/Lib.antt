@@ -1,6 +1,3 @@
-pub mod Frames
-pub mod OneInstruction
-pub mod ValueCode
 pub mod TestCode
 pub mod StatementCode
 pub mod Lowered

@@ -10,7 +10,7 @@ use Rattle.three_address.specs.declared.function.Lowered.{Lowered}
 use Rattle.three_address.specs.declared.instruction.LowInstr.{LowInstr}
 use Rattle.three_address.specs.declared.instruction.Op22.{Op22}
 use Rattle.three_address.specs.declared.instruction.Op22.TheVariants as op
-use Rattle.lowering.specs.Frames.{frame_of}
+use Rattle.value_lowering.specs.Frames.{frame_of}
 use Rattle.lowering.specs.StatementCode.{block_code, block_labels}
 
 -- ---- labels, which are numbered from 1 by position

@@ -5,10 +5,10 @@ use Rattle.xanadu_tree.specs.BodyRules.{completes_all}
 use Rattle.xanadu_tree.specs.Plain as core
 use Rattle.typed_core.specs.Places.{behind}
 use Rattle.three_address.specs.declared.instruction.LowInstr.{LowInstr}
-use Rattle.lowering.specs.Frames.{Frame, temporary, operand_place, tuple_number}
-use Rattle.lowering.specs.OneInstruction.{Aim, literal, stored, parted, printed, jump, returned, one_if, jump_if, label_if}
+use Rattle.value_lowering.specs.Frames.{Frame, temporary, operand_place, tuple_number}
+use Rattle.value_lowering.specs.OneInstruction.{Aim, literal, stored, parted, printed, jump, returned, one_if, jump_if, label_if}
 use Rattle.lowering.specs.TestCode.{test_size, test_code, test_labels}
-use Rattle.lowering.specs.ValueCode.{value_size, value_code, operand_at, size_at}
+use Rattle.value_lowering.specs.ValueCode.{value_size, value_code, operand_at, size_at}
 
 -- ---- where branches meet
 

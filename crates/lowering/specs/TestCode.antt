@@ -6,9 +6,9 @@ use Rattle.std.specs.Prelude.{ℕ, ◌+◌, Bool as Truth, true, false, not, Lis
 use Rattle.xanadu_tree.specs.Plain as core
 use Rattle.typed_core.specs.Places.{behind}
 use Rattle.three_address.specs.declared.instruction.LowInstr.{LowInstr}
-use Rattle.lowering.specs.Frames.{operand_place}
-use Rattle.lowering.specs.OneInstruction.{Aim, branch, truth_branch, one_if, jump_if, label_if}
-use Rattle.lowering.specs.ValueCode.{operand_at, size_at}
+use Rattle.value_lowering.specs.Frames.{operand_place}
+use Rattle.value_lowering.specs.OneInstruction.{Aim, branch, truth_branch, one_if, jump_if, label_if}
+use Rattle.value_lowering.specs.ValueCode.{operand_at, size_at}
 
 -- ---- leaves
 

@@ -4,7 +4,7 @@ use Rattle.xanadu_tree.specs.Plain as core
 use Rattle.three_address.specs.declared.instruction.LowInstr.{LowInstr}
 use Rattle.three_address.specs.declared.instruction.Op22.{Op22}
 use Rattle.three_address.specs.declared.instruction.Op22.TheVariants as op
-use Rattle.lowering.specs.OneInstruction.{one_if}
+use Rattle.value_lowering.specs.OneInstruction.{one_if}
 
 abbrev pub is_conditional : Op22 → Truth
 is_conditional op.Br = true

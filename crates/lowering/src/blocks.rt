@@ -7,8 +7,8 @@ ghost use Rattle.lowering.specs.StatementCode as spec;
 ghost use Rattle.xanadu_tree.specs.BodyRules as rules;
 ghost use Rattle.xanadu_tree.specs.PlainOf.{plain_block, plain_expr, plain_stmt};
 
-use crate::emit::Stop;
 use crate::sizes::{one_if, operand_size, plus, test_size, value_size};
+use value_lowering::Stop;
 use xanadu_tree::{Clause, CoreExpr, CoreStmt};
 
 /// Whether control can come to what stands behind a statement.

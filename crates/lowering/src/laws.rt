@@ -2,7 +2,7 @@
 
 ghost use Rattle.std.specs.Prelude.{◌≡◌, ℕ, suc, ◌<◌, List, length, map, slice_get, Some};
 ghost use Rattle.lowering.specs.CodeBlocks.{HasJump, InBlocks};
-ghost use Rattle.lowering.specs.Frames.{frame_of, tuple_number};
+ghost use Rattle.value_lowering.specs.Frames.{frame_of, tuple_number};
 ghost use Rattle.lowering.specs.Lowered.{NamesPosition, body_of, code_of, function_of, lowered};
 ghost use Rattle.lowering.specs.TestLeaves.{block_leaves, conditional_branches};
 ghost use Rattle.state_types.specs.declared.closed.Signature.{Signature};

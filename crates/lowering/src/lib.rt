@@ -2,12 +2,10 @@
 //!
 //! `specs/` says which code a core has. What holds of it are laws: its places are those that the limits count, its conditional branches are
 //! the leaves of tests, it is in blocks whose labels rise, and each label has a jump. It stands on `typed_core` for cores with their closed
-//! types and signatures, and on `three_address` for the code.
+//! types and signatures, on `three_address` for the code, and on `value_lowering` for that of expressions.
 #![tactic(auto)]
 
 mod blocks;
-mod emit;
-mod kinds;
 mod laws;
 mod numbering;
 mod programs;
@@ -15,7 +13,6 @@ mod reaches;
 mod sizes;
 mod statements;
 mod tests;
-mod values;
 
 pub use crate::blocks::completes_all;
 pub use crate::laws::{

@@ -5,9 +5,9 @@ ghost use Rattle.lowering.specs.Emitted as emitted;
 ghost use Rattle.lowering.specs.Emitted.{IsTable};
 ghost use Rattle.lowering.specs.Lowered as spec;
 
-use crate::emit::Stop;
 use std::alloc::Global;
 use three_address::{LowInstr, Op22};
+use value_lowering::Stop;
 
 // The number of a label into the table, unless the table has one for its position.
 fn note(table: &mut Vec<u32>, at: u32, number: u32)
@@ -100,7 +100,7 @@ fn renumbered(labels: &[u32], table: &[u32], instr: LowInstr) -> Result<LowInstr
 }
 
 /// The code with the number of a label in place of each position to which it leads.
-#[tactic(auto, using(crate::proofs::EmittedCode::emitted))]
+#[tactic(auto, using(value_lowering::proofs::EmittedCode::emitted))]
 pub(crate) fn numbered(
     alloc: Global,
     labels: &[u32],

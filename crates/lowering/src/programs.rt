@@ -7,8 +7,6 @@ ghost use Rattle.lowering.specs.Lowered as spec;
 ghost use Rattle.xanadu_tree.specs.KindRules as rules;
 ghost use Rattle.xanadu_tree.specs.PlainOf.{plain_fun};
 
-use crate::emit::Stop;
-use crate::kinds::kind_of;
 use crate::numbering::numbered;
 use crate::reaches::code_reach;
 use crate::statements::{block, count};
@@ -16,6 +14,7 @@ use state_types::{Signature, TypeTable};
 use std::alloc::Global;
 use three_address::{LowFun, Lowered};
 use typed_core::Proved;
+use value_lowering::{Stop, kind_of};
 use xan_io::Memory;
 use xan_seq::Seq;
 use xanadu_tree::{CoreFun, Kind, Packing};
@@ -78,7 +77,7 @@ fn function(
 }
 
 // Each function with its signature.
-#[tactic(auto, using(crate::proofs::EmittedCode::emitted), unfolding(crate::specs::Emitted::functions_in))]
+#[tactic(auto, using(value_lowering::proofs::EmittedCode::emitted), unfolding(crate::specs::Emitted::functions_in))]
 fn functions(
     alloc: Global,
     funs: &[CoreFun],

@@ -3,8 +3,8 @@
 ghost use Rattle.std.specs.Prelude.{◌≡◌, IfOk, max};
 ghost use Rattle.lowering.specs.Lowered as spec;
 
-use crate::emit::Stop;
 use three_address::LowInstr;
+use value_lowering::Stop;
 
 // The greater one.
 fn greater(left: u16, right: u16) -> u16

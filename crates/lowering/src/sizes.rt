@@ -1,13 +1,14 @@
 //! How many instructions the code of a part of a core has.
 
 ghost use Rattle.std.specs.Prelude.{◌≡◌, ◌+◌, IfOk, map};
-ghost use Rattle.lowering.specs.Emitted.{link_of, turn_of};
-ghost use Rattle.lowering.specs.OneInstruction as one;
+ghost use Rattle.lowering.specs.Emitted.{turn_of};
+ghost use Rattle.value_lowering.specs.ChainParts.{link_of};
+ghost use Rattle.value_lowering.specs.OneInstruction as one;
 ghost use Rattle.lowering.specs.TestCode as tests;
-ghost use Rattle.lowering.specs.ValueCode as values;
+ghost use Rattle.value_lowering.specs.ValueCode as values;
 ghost use Rattle.xanadu_tree.specs.PlainOf.{plain_expr, plain_test, to_exprs, to_links, to_tests};
 
-use crate::emit::Stop;
+use value_lowering::Stop;
 use xanadu_tree::{CoreExpr, Op, Test};
 
 /// The sum of two sizes.
@@ -49,7 +50,7 @@ pub(crate) fn operand_size(e: &CoreExpr) -> Result<u32, Stop>
 }
 
 #[cycle(sizes)]
-#[tactic(auto, using(xanadu_tree::proofs::Equations::plain_trees), unfolding(crate::specs::ValueCode::value_size))]
+#[tactic(auto, using(xanadu_tree::proofs::Equations::plain_trees), unfolding(value_lowering::specs::ValueCode::value_size))]
 pub(crate) fn value_size(e: &CoreExpr) -> Result<u32, Stop>
     ensures { IfOk result (λ size. size ≡ values.value_size (plain_expr e.now)) }
 {
@@ -78,7 +79,7 @@ pub(crate) fn value_size(e: &CoreExpr) -> Result<u32, Stop>
 }
 
 #[cycle(sizes)]
-#[tactic(auto, using(xanadu_tree::proofs::Equations::plain_trees), unfolding(crate::specs::ValueCode::value_size))]
+#[tactic(auto, using(xanadu_tree::proofs::Equations::plain_trees), unfolding(value_lowering::specs::ValueCode::value_size))]
 fn operands_size(es: &[CoreExpr]) -> Result<u32, Stop>
     ensures { IfOk result (λ size. size ≡ values.operands_size (to_exprs (map plain_expr es.now))) }
 {
@@ -90,7 +91,7 @@ fn operands_size(es: &[CoreExpr]) -> Result<u32, Stop>
 }
 
 #[cycle(sizes)]
-#[tactic(auto, using(xanadu_tree::proofs::Equations::plain_trees), unfolding(crate::specs::ValueCode::value_size))]
+#[tactic(auto, using(xanadu_tree::proofs::Equations::plain_trees), unfolding(value_lowering::specs::ValueCode::value_size))]
 fn links_size(rest: &[(Op, CoreExpr, u32)]) -> Result<u32, Stop>
     ensures { IfOk result (λ size. size ≡ values.links_size (to_links (map link_of rest.now))) }
 {

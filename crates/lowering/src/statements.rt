@@ -2,25 +2,25 @@
 
 ghost use Rattle.std.specs.Option.{option_map};
 ghost use Rattle.std.specs.Prelude.{◌≡◌, ◌++◌, [], ◌∷◌, IfOk, length, false, suc};
-ghost use Rattle.lowering.specs.Frames.{operand_place};
-ghost use Rattle.lowering.specs.OneInstruction as one;
+ghost use Rattle.value_lowering.specs.Frames.{operand_place};
+ghost use Rattle.value_lowering.specs.OneInstruction as one;
 ghost use Rattle.lowering.specs.StatementCode as spec;
 ghost use Rattle.lowering.specs.TestCode as tests;
-ghost use Rattle.lowering.specs.ValueCode as values;
+ghost use Rattle.value_lowering.specs.ValueCode as values;
 ghost use Rattle.xanadu_tree.specs.PlainOf.{plain_block, plain_expr, plain_stmt, plain_test};
 
 use crate::blocks::{block_size, completes_all, jumps, meet, statement_size};
-use crate::emit::{Stop, emit, emit_with, temporary, variable};
-use crate::kinds::tuple_number;
 use crate::sizes::{one_if, plus, test_size};
 use crate::tests::{jump_if, label_if, test};
-use crate::values::{behind, operand, value};
 use std::alloc::Global;
 use three_address::{LowInstr, Op22};
+use value_lowering::{
+    Stop, behind, emit, emit_with, operand, temporary, tuple_number, value, variable,
+};
 use xanadu_tree::{Clause, CoreExpr, CoreStmt, Kind, Packing, Test};
 
 // The value of a `return`, and the return.
-#[tactic(auto, using(crate::proofs::EmittedCode::emitted))]
+#[tactic(auto, using(value_lowering::proofs::EmittedCode::emitted))]
 fn return_onto(
     e: &Option<CoreExpr>,
     alloc: Global,
@@ -43,7 +43,7 @@ fn return_onto(
 }
 
 // A value into a cell.
-#[tactic(auto, using(crate::proofs::EmittedCode::emitted))]
+#[tactic(auto, using(value_lowering::proofs::EmittedCode::emitted))]
 fn store_onto(
     array: &CoreExpr,
     index: &CoreExpr,
@@ -63,7 +63,7 @@ fn store_onto(
 }
 
 // The number of a printed value.
-#[tactic(auto, using(crate::proofs::EmittedCode::emitted))]
+#[tactic(auto, using(value_lowering::proofs::EmittedCode::emitted))]
 fn print_onto(e: &CoreExpr, alloc: Global, vars: u16, code: &mut Vec<LowInstr>) -> Result<(), Stop>
     ensures { IfOk result (λ _. code.new.items
         ≡ code.old.items ++ (values.operand_at vars (plain_expr e.now) 0 ++ one.printed (operand_place vars (plain_expr e.now) 0) ∷ [])) }
@@ -117,7 +117,7 @@ fn turn_at(asked: &Test, body: &[CoreStmt], at: u32) -> Result<Branches, Stop>
 }
 
 // The parts of a tuple, each into a variable.
-#[tactic(auto, using(crate::proofs::EmittedCode::emitted))]
+#[tactic(auto, using(value_lowering::proofs::EmittedCode::emitted))]
 fn split_onto(
     e: &CoreExpr,
     alloc: Global,
@@ -158,7 +158,7 @@ pub(crate) fn count(kinds: &[Kind]) -> Result<u16, Stop>
 }
 
 // The head of a loop at a position: a jump to its label, and its test, which leaves the loop where it is false.
-#[tactic(auto, using(crate::proofs::EmittedCode::emitted))]
+#[tactic(auto, using(value_lowering::proofs::EmittedCode::emitted))]
 fn head_onto(
     asked: &Test,
     alloc: Global,
@@ -178,7 +178,7 @@ fn head_onto(
 
 /// A statement at a position.
 #[cycle(statements)]
-#[tactic(auto, using(xanadu_tree::proofs::Equations::plain_trees, crate::proofs::EmittedCode::emitted), unfolding(crate::specs::StatementCode::statement_code, crate::specs::StatementCode::statement_labels))]
+#[tactic(auto, using(xanadu_tree::proofs::Equations::plain_trees, value_lowering::proofs::EmittedCode::emitted), unfolding(crate::specs::StatementCode::statement_code, crate::specs::StatementCode::statement_labels))]
 fn statement(
     s: &CoreStmt,
     alloc: Global,
@@ -281,7 +281,7 @@ fn statement(
 
 // A block at a position, a jump behind it where it is asked for, and then a label where it is asked for.
 #[cycle(statements)]
-#[tactic(auto, using(crate::proofs::EmittedCode::emitted))]
+#[tactic(auto, using(value_lowering::proofs::EmittedCode::emitted))]
 fn branch(
     ss: &[CoreStmt],
     alloc: Global,
@@ -307,7 +307,7 @@ fn branch(
 
 /// A block at a position.
 #[cycle(statements)]
-#[tactic(auto, using(xanadu_tree::proofs::Equations::plain_trees, crate::proofs::EmittedCode::emitted), unfolding(crate::specs::StatementCode::statement_code, crate::specs::StatementCode::statement_labels))]
+#[tactic(auto, using(xanadu_tree::proofs::Equations::plain_trees, value_lowering::proofs::EmittedCode::emitted), unfolding(crate::specs::StatementCode::statement_code, crate::specs::StatementCode::statement_labels))]
 pub(crate) fn block(
     ss: &[CoreStmt],
     alloc: Global,

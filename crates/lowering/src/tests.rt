@@ -2,15 +2,14 @@
 
 ghost use Rattle.std.specs.Prelude.{◌≡◌, ◌++◌, [], ◌∷◌, IfOk, map};
 ghost use Rattle.lowering.specs.Emitted.{aim_of, turn_of};
-ghost use Rattle.lowering.specs.OneInstruction as one;
+ghost use Rattle.value_lowering.specs.OneInstruction as one;
 ghost use Rattle.lowering.specs.TestCode as spec;
 ghost use Rattle.xanadu_tree.specs.PlainOf.{plain_expr, plain_test, to_tests};
 
-use crate::emit::{Stop, emit};
 use crate::sizes::{inner_on, one_if, parts_size, plus, test_size, turn};
-use crate::values::{behind, comparison, in_order, operand};
 use std::alloc::Global;
 use three_address::{LowInstr, Op22};
+use value_lowering::{Stop, behind, comparison, emit, in_order, operand};
 use xanadu_tree::{CoreExpr, Rel, Test};
 
 // The comparison that holds where this one does not.
@@ -73,7 +72,7 @@ fn truth_branch(
 }
 
 // A leaf of a test.
-#[tactic(auto, using(xanadu_tree::proofs::Equations::plain_trees, crate::proofs::EmittedCode::emitted))]
+#[tactic(auto, using(xanadu_tree::proofs::Equations::plain_trees, value_lowering::proofs::EmittedCode::emitted))]
 fn leaf(
     e: &CoreExpr,
     alloc: Global,
@@ -159,7 +158,7 @@ pub(crate) fn label_if(so: bool, at: u32, labels: &mut Vec<u32>) -> Result<(), S
 
 /// A test, which goes to a position where it is as asked. It stands at another position.
 #[cycle(test_code)]
-#[tactic(auto, using(xanadu_tree::proofs::Equations::plain_trees, crate::proofs::EmittedCode::emitted), unfolding(crate::specs::TestCode::test_code, crate::specs::TestCode::test_labels))]
+#[tactic(auto, using(xanadu_tree::proofs::Equations::plain_trees, value_lowering::proofs::EmittedCode::emitted), unfolding(crate::specs::TestCode::test_code, crate::specs::TestCode::test_labels))]
 pub(crate) fn test(
     t: &Test,
     alloc: Global,
@@ -195,7 +194,7 @@ pub(crate) fn test(
 
 // The parts of a test, each but the last with one aim, and the last one with another.
 #[cycle(test_code)]
-#[tactic(auto, using(xanadu_tree::proofs::Equations::plain_trees, crate::proofs::EmittedCode::emitted), unfolding(crate::specs::TestCode::test_code, crate::specs::TestCode::test_labels))]
+#[tactic(auto, using(xanadu_tree::proofs::Equations::plain_trees, value_lowering::proofs::EmittedCode::emitted), unfolding(crate::specs::TestCode::test_code, crate::specs::TestCode::test_labels))]
 fn all(
     parts: &[Test],
     alloc: Global,

@@ -13,8 +13,8 @@ use Rattle.xanadu_tree.specs.Plain as core
 use Rattle.typed_core.specs.SourceRuns.{Run, Answer, Env, Place, Recorder, Calls, Flow, Next, Gives, spent, units_taken}
 use Rattle.typed_core.specs.SourceStatements.{reached, behind, one_of_two, turned, turns, statement, block}
 use Rattle.typed_core.specs.SourceTests.{holds}
-use Rattle.lowering.specs.Frames.{Frame}
-use Rattle.lowering.specs.OneInstruction.{jump, one_if, jump_if}
+use Rattle.value_lowering.specs.Frames.{Frame}
+use Rattle.value_lowering.specs.OneInstruction.{jump, one_if, jump_if}
 use Rattle.lowering.specs.StatementCode.{jumps, statement_size, block_size, first_at, second_at, meet_at, behind_loop, unless, statement_code, block_code}
 use Rattle.lowering.specs.TestCode.{test_code}
 use Rattle.lowering.proofs.CodeSizes.{test_long, long_jump, statement_long, block_long}

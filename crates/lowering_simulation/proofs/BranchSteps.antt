@@ -20,7 +20,7 @@ use Rattle.typed_core.specs.SourceRuns.{Run, Answer, Env, stuck}
 use Rattle.typed_core.specs.SourceTests.{decided, decided_if}
 use Rattle.typed_core.specs.SourceValues.{Number, Truth, Value, words_of, have_tags}
 use Rattle.lowering.specs.Lowered.{leads}
-use Rattle.lowering.specs.OneInstruction.{Aim, opposite, that_is, branch, truth_branch, truth_op, jump, in_order, comparison}
+use Rattle.value_lowering.specs.OneInstruction.{Aim, opposite, that_is, branch, truth_branch, truth_op, jump, in_order, comparison}
 use Rattle.lowering_simulation.proofs.CodeStands.{IsCode, Here, act_at, state_at, config, instruction_acts}
 use Rattle.lowering_simulation.proofs.InstructionForms.{form, jump_form, truth_branch_form}
 use Rattle.lowering_simulation.proofs.RunsAhead.{Config, Comes, Arrives, arrives_there, arrives_stuck}

@@ -19,9 +19,9 @@ use Rattle.xanadu_tree.specs.Shaped.{IsFunction, body_start, setting}
 use Rattle.typed_core.specs.SourceCalls.{env_of, result, body_if, body, begun, called}
 use Rattle.typed_core.specs.SourceRuns.{Run, Answer, Recorder, Calls, Next, Gives, spent, units_taken}
 use Rattle.typed_core.specs.SourceValues.{Value}
-use Rattle.lowering.specs.Frames.{frame_of}
+use Rattle.value_lowering.specs.Frames.{frame_of}
 use Rattle.lowering.specs.Lowered.{code_of}
-use Rattle.lowering.specs.OneInstruction.{called as called_instr, returned}
+use Rattle.value_lowering.specs.OneInstruction.{called as called_instr, returned}
 use Rattle.lowering.specs.StatementCode.{block_size}
 use Rattle.lowering_simulation.proofs.CodeStands.{IsCode, Here, act_at, state_at, config, instruction_acts, first_place}
 use Rattle.lowering_simulation.proofs.InstructionForms.{called_form, returned_form}

@@ -8,7 +8,7 @@ use Rattle.three_address.specs.declared.instruction.Op22.TheVariants as op22
 use Rattle.xanadu_tree.specs.declared.expr.Op.{Op}
 use Rattle.xanadu_tree.specs.declared.expr.Op.TheVariants as op
 use Rattle.typed_core.specs.Operators.{operation_of}
-use Rattle.lowering.specs.OneInstruction.{instr, literal, truth, unary, binary, op_of, called, tuple_made, array_made, stored, parted, printed, returned, jump, truth_branch, truth_op, Aim}
+use Rattle.value_lowering.specs.OneInstruction.{instr, literal, truth, unary, binary, op_of, called, tuple_made, array_made, stored, parted, printed, returned, jump, truth_branch, truth_op, Aim}
 
 abbrev pub form : Operation → (writes reads : List ℕ) → Option Instruction
 form o writes reads = Some (record { operation = o; writes = writes; reads = reads })

@@ -9,8 +9,8 @@ use Rattle.typed_core.specs.Places.{behind}
 use Rattle.typed_core.specs.SourceOperands.{read, value}
 use Rattle.typed_core.specs.SourceRuns.{Run, Answer, Env, Calls}
 use Rattle.typed_core.specs.SourceValues.{Value}
-use Rattle.lowering.specs.Frames.{temporary, operand_place}
-use Rattle.lowering.specs.ValueCode.{value_size, value_code, operand_at, size_at}
+use Rattle.value_lowering.specs.Frames.{temporary, operand_place}
+use Rattle.value_lowering.specs.ValueCode.{value_size, value_code, operand_at, size_at}
 use Rattle.lowering.proofs.CodeSizes.{operand_at_long}
 use Rattle.lowering_simulation.proofs.CodeStands.{IsCode, Here, Stands, config, stands_front, stands_behind}
 use Rattle.lowering_simulation.proofs.ListPlaces.{get_last}

@@ -16,7 +16,7 @@ use Rattle.typed_core.specs.SourceCalls.{called}
 use Rattle.typed_core.specs.SourceRuns.{Run, Answer, Recorder}
 use Rattle.typed_core.specs.SourceValues.{Value, Blocks, with_tags}
 use Rattle.lowering.specs.Lowered.{code_of}
-use Rattle.lowering.specs.OneInstruction.{returned}
+use Rattle.value_lowering.specs.OneInstruction.{returned}
 use Rattle.lowering_simulation.specs.Results.{GivesNumber}
 use Rattle.lowering_simulation.proofs.ArgumentsPlaced.{BothPlaced, PlacedAlike, placed_alike}
 use Rattle.lowering_simulation.proofs.BlocksLaid.{sizes_of, Laid}

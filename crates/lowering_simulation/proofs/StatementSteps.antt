@@ -15,7 +15,7 @@ use Rattle.typed_core.specs.SourceRuns.{Run, Answer, End, Env, Flow, Next, Gives
 use Rattle.typed_core.specs.SourceStatements.{set_if, set_variable, set_all, completes, parts_if, parts_read, cell_put_if, cell_put, printed_if, number_printed}
 use Rattle.typed_core.specs.SourceValues.{Tag, Number, Array, Tuple, Value, Blocks, words_of, have_tags, tags_of, cells_of, cell_tag, with_tags}
 use Rattle.lowering.specs.Lowered.{places_reach}
-use Rattle.lowering.specs.OneInstruction.{stored, parted, printed, returned}
+use Rattle.value_lowering.specs.OneInstruction.{stored, parted, printed, returned}
 use Rattle.lowering_simulation.proofs.BlocksLaid.{IsLaid}
 use Rattle.lowering_simulation.proofs.CellsAlike.{PutAlike, put_alike, PartsAlike, parts_alike}
 use Rattle.lowering_simulation.proofs.CodeStands.{IsCode, Here, act_at, state_at, config, instruction_acts}

@@ -14,10 +14,10 @@ use Rattle.typed_core.specs.SourceOperands.{value}
 use Rattle.typed_core.specs.SourceRuns.{Run, Answer, Env, Place, Recorder, Calls, Flow, Next, Gives}
 use Rattle.typed_core.specs.SourceStatements.{set_variable, set_all, completes, parts_read, cell_put, number_printed, statement}
 use Rattle.typed_core.specs.SourceValues.{Value, number}
-use Rattle.lowering.specs.Frames.{Frame, temporary, operand_place, tuple_number}
-use Rattle.lowering.specs.OneInstruction.{stored, parted, printed}
+use Rattle.value_lowering.specs.Frames.{Frame, temporary, operand_place, tuple_number}
+use Rattle.value_lowering.specs.OneInstruction.{stored, parted, printed}
 use Rattle.lowering.specs.StatementCode.{return_code}
-use Rattle.lowering.specs.ValueCode.{value_code, value_size, operand_at, size_at}
+use Rattle.value_lowering.specs.ValueCode.{value_code, value_size, operand_at, size_at}
 use Rattle.lowering.proofs.CodeSizes.{operand_at_long}
 use Rattle.lowering_simulation.proofs.CodeStands.{IsCode, Here, Stands, config, stands_front, stands_behind, stands_first, stands_rest}
 use Rattle.lowering_simulation.proofs.ListPlaces.{get_set}

@@ -16,9 +16,9 @@ use Rattle.typed_core.specs.Places.{behind}
 use Rattle.typed_core.specs.SourceOperands.{value_if}
 use Rattle.typed_core.specs.SourceRuns.{Run, Answer, Env, Calls, one_of}
 use Rattle.typed_core.specs.SourceValues.{Tag, Value, Blocks, words_of, separate}
-use Rattle.lowering.specs.Frames.{operand_place}
-use Rattle.lowering.specs.OneInstruction.{called}
-use Rattle.lowering.specs.ValueCode.{operand_places}
+use Rattle.value_lowering.specs.Frames.{operand_place}
+use Rattle.value_lowering.specs.OneInstruction.{called}
+use Rattle.value_lowering.specs.ValueCode.{operand_places}
 use Rattle.lowering_simulation.proofs.BlocksLaid.{sizes_of}
 use Rattle.lowering_simulation.proofs.CodeStands.{IsCode, Here, act_at, state_at, config, instruction_acts, first_place}
 use Rattle.lowering_simulation.proofs.EffectsAlike.{tagged_word, Wrote, AlikeWord}

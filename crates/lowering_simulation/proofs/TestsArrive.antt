@@ -11,10 +11,10 @@ use Rattle.xanadu_tree.specs.Plain as core
 use Rattle.typed_core.specs.SourceOperands.{value, related}
 use Rattle.typed_core.specs.SourceRuns.{Run, Answer, Env, Calls}
 use Rattle.typed_core.specs.SourceTests.{decided, unless, holds, all_hold, any_holds}
-use Rattle.lowering.specs.Frames.{operand_place}
-use Rattle.lowering.specs.OneInstruction.{Aim, truth_branch, jump, jump_if, one_if}
+use Rattle.value_lowering.specs.Frames.{operand_place}
+use Rattle.value_lowering.specs.OneInstruction.{Aim, truth_branch, jump, jump_if, one_if}
 use Rattle.lowering.specs.TestCode.{leaf_size, leaf_code, inner_on, inner_to, inner_aim, turned, past_parts, test_size, parts_size, test_code, parts_code}
-use Rattle.lowering.specs.ValueCode.{operand_at, size_at}
+use Rattle.value_lowering.specs.ValueCode.{operand_at, size_at}
 use Rattle.lowering.proofs.CodeSizes.{operand_at_long, test_long, parts_long}
 use Rattle.lowering_simulation.proofs.BranchSteps.{goes_to, goes_turned, Tested, jump_comes, compared_branch, truth_branched}
 use Rattle.lowering_simulation.proofs.CodeStands.{IsCode, Here, Stands, config, stands_front, stands_behind, stands_first}

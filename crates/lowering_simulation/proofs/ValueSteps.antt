@@ -16,7 +16,7 @@ use Rattle.typed_core.specs.Operators.{operation_of}
 use Rattle.typed_core.specs.SourceOperands.{no_cells, value_by, arithmetic, related, cell_read, measured, tuple_made, array_made}
 use Rattle.typed_core.specs.SourceRuns.{Run, Answer, Env, one_of}
 use Rattle.typed_core.specs.SourceValues.{Tag, Number, Truth, Array, Tuple, Value, Blocks, number, words_of, have_tags, tag_at, cell_tag, separate}
-use Rattle.lowering.specs.OneInstruction.{literal, truth, unary, binary, op_of, tuple_made as tuple_instr, array_made as array_instr, compared as compared_instr}
+use Rattle.value_lowering.specs.OneInstruction.{literal, truth, unary, binary, op_of, tuple_made as tuple_instr, array_made as array_instr, compared as compared_instr}
 use Rattle.lowering_simulation.proofs.CodeStands.{IsCode, Here, config}
 use Rattle.lowering_simulation.proofs.EffectsAlike.{AlikeWord, alike_same, literal_alike, truth_alike, arithmetic_alike, compare_alike, length_alike, load_alike, tuple_alike, array_alike}
 use Rattle.lowering_simulation.proofs.InstructionForms.{form, literal_form, truth_form, move_form, length_form, arithmetic_form, load_form, array_form, tuple_form}

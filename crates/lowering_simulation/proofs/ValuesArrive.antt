@@ -15,9 +15,9 @@ use Rattle.typed_core.specs.Places.{is_put, next_to, behind}
 use Rattle.typed_core.specs.SourceOperands.{read, value, values, chained, related, cell_read, measured, tuple_made, array_made, arithmetic, value_by}
 use Rattle.typed_core.specs.SourceRuns.{Run, Answer, Env, Calls}
 use Rattle.typed_core.specs.SourceValues.{Value, number, have_tags, words_of}
-use Rattle.lowering.specs.Frames.{temporary, operand_place}
-use Rattle.lowering.specs.OneInstruction.{unary}
-use Rattle.lowering.specs.ValueCode.{value_size, operands_size, links_size, value_code, operands_code, links_code, operand_places, operand_at, size_at}
+use Rattle.value_lowering.specs.Frames.{temporary, operand_place}
+use Rattle.value_lowering.specs.OneInstruction.{unary}
+use Rattle.value_lowering.specs.ValueCode.{value_size, operands_size, links_size, value_code, operands_code, links_code, operand_places, operand_at, size_at}
 use Rattle.lowering.proofs.CodeSizes.{operand_at_long, operands_long}
 use Rattle.lowering_simulation.proofs.CodeStands.{IsCode, Here, Stands, config, stands_front, stands_behind, stands_first, stands_rest, first_place}
 use Rattle.lowering_simulation.proofs.ListPlaces.{get_last}

@@ -14,7 +14,7 @@ use Rattle.three_address.specs.declared.instruction.Op22.{Op22}
 use Rattle.three_address.specs.declared.instruction.Op22.TheVariants as low
 use Rattle.three_address.specs.declared.typed.Edge.{Edge}
 use Rattle.lowering.specs.Lowered.{places_reach, code_reach}
-use Rattle.lowering.specs.OneInstruction.{one_if}
+use Rattle.value_lowering.specs.OneInstruction.{one_if}
 use Rattle.lowering.specs.TestLeaves as leaves
 use Rattle.lowering.specs.TestLeaves.{conditional_branches}
 use Rattle.dtal_code.specs.declared.instruction.Instr.{Instr}

@@ -5,7 +5,7 @@ use Rattle.typed_core.specs.Goals.{Elaboration}
 use Rattle.three_address.specs.declared.function.LowFun.{LowFun}
 use Rattle.three_address.specs.declared.instruction.LowInstr.{LowInstr}
 use Rattle.lowering.specs.Lowered.{functions_of}
-use Rattle.lowering.specs.OneInstruction.{one_if}
+use Rattle.value_lowering.specs.OneInstruction.{one_if}
 use Rattle.lowering.specs.TestLeaves.{block_leaves}
 use Rattle.dtal_code.specs.Grammar.{size_of as blocks_size}
 use Rattle.dtal_code.specs.declared.instruction.Instr.{Instr}

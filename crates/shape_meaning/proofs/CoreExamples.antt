@@ -11,10 +11,10 @@ use Rattle.xanadu_tree.specs.Plain.{Program, Fun, NoStmt, AStmt, Set, Split, Sto
 use Rattle.xanadu_lexer.specs.Lexing.{keyword_of as lex_keyword_of, word as lex_word, number as lex_number, long_symbol as lex_long_symbol, short_symbol as lex_short_symbol, front as lex_front, lexed_from as lex_lexed_from}
 use Rattle.xan_read.specs.Symbols.{eat as reader_eat, take as reader_take, repeated_from as reader_repeated_from, until_from as reader_until_from}
 use Rattle.xan_read.specs.Combinators.{literal as reader_literal, after as reader_after}
-use Rattle.xanadu_parser.specs.Tables.{keyword as parse_keyword, mark as parse_mark, symbol_among as parse_symbol_among, next_symbol as parse_next_symbol, lower as parse_lower, upper as parse_upper, number as parse_number}
-use Rattle.xanadu_parser.specs.Index.{scaled as parse_scaled, term as parse_term, terms as parse_terms, index as parse_index, between as parse_between, relation as parse_relation, relations as parse_relations, assumed as parse_assumed, sort as parse_sort, binder as parse_binder, binders as parse_binders, quantified as parse_quantified, quantifier as parse_quantifier}
-use Rattle.xanadu_parser.specs.Types.{element as parse_element, length_of as parse_length_of, number_type as parse_number_type, written_type as parse_written_type, types as parse_types, parameter as parse_parameter, listed_parameters as parse_listed_parameters, some_parameters as parse_some_parameters, parameters as parse_parameters, quantified_clause as parse_quantified_clause, clause as parse_clause, clause_behind as parse_clause_behind}
-use Rattle.xanadu_parser.specs.Expressions.{listed as parse_listed, some_arguments as parse_some_arguments, arguments as parse_arguments, named as parse_named, tuple as parse_tuple, closed as parse_closed, length_of as parse_length_of_expressions, new_array as parse_new_array, marked as parse_marked, primary as parse_primary, indices as parse_indices, postfix as parse_postfix, unary as parse_unary, operands as parse_operands, product as parse_product, products as parse_products, sum as parse_sum, compared as parse_compared, comparison as parse_comparison, negation as parse_negation, negations as parse_negations, conjunction as parse_conjunction, conjunctions as parse_conjunctions, disjunction as parse_disjunction, expression as parse_expression}
+use Rattle.expression_parser.specs.Tables.{keyword as parse_keyword, mark as parse_mark, symbol_among as parse_symbol_among, next_symbol as parse_next_symbol, lower as parse_lower, upper as parse_upper, number as parse_number}
+use Rattle.expression_parser.specs.Index.{scaled as parse_scaled, term as parse_term, terms as parse_terms, index as parse_index, between as parse_between, relation as parse_relation, relations as parse_relations, assumed as parse_assumed, sort as parse_sort, binder as parse_binder, binders as parse_binders, quantified as parse_quantified, quantifier as parse_quantifier}
+use Rattle.expression_parser.specs.Types.{element as parse_element, length_of as parse_length_of, number_type as parse_number_type, written_type as parse_written_type, types as parse_types, parameter as parse_parameter, listed_parameters as parse_listed_parameters, some_parameters as parse_some_parameters, parameters as parse_parameters, quantified_clause as parse_quantified_clause, clause as parse_clause, clause_behind as parse_clause_behind}
+use Rattle.expression_parser.specs.Expressions.{listed as parse_listed, some_arguments as parse_some_arguments, arguments as parse_arguments, named as parse_named, tuple as parse_tuple, closed as parse_closed, length_of as parse_length_of_expressions, new_array as parse_new_array, marked as parse_marked, primary as parse_primary, indices as parse_indices, postfix as parse_postfix, unary as parse_unary, operands as parse_operands, product as parse_product, products as parse_products, sum as parse_sum, compared as parse_compared, comparison as parse_comparison, negation as parse_negation, negations as parse_negations, conjunction as parse_conjunction, conjunctions as parse_conjunctions, disjunction as parse_disjunction, expression as parse_expression}
 use Rattle.xanadu_parser.specs.Statements.{names as parse_names, ended as parse_ended, condition as parse_condition, declared as parse_declared, split as parse_split, returned as parse_returned, called as parse_called, assigned as parse_assigned, named as parse_named_statements, simple as parse_simple, otherwise as parse_otherwise, branches as parse_branches, repeated_block as parse_repeated_block, statement as parse_statement, statements as parse_statements, block as parse_block}
 use Rattle.xanadu_parser.specs.Declarations.{type_body as parse_type_body, type_declaration as parse_type_declaration, value_type as parse_value_type, result_type as parse_result_type, function_declaration as parse_function_declaration, declaration as parse_declaration, declarations_from as parse_declarations_from, declarations as parse_declarations}
 use Rattle.xanadu_lexer.specs.Lexing.{lexed}

@@ -1,7 +1,7 @@
 //! What stands with the instructions of expressions.
 
 ghost use Rattle.std.specs.Prelude.{◌≡◌, ◌++◌, [], ◌∷◌, IfOk, map};
-ghost use Rattle.lowering.specs.Emitted.{link_of};
+ghost use Rattle.value_lowering.specs.ChainParts.{link_of};
 ghost use Rattle.type_carrier.specs.CarriedValues as spec;
 ghost use Rattle.type_carrier.specs.CarriedValues.{carried};
 ghost use Rattle.type_carrier.specs.ProvedRows as rows;

@@ -10,7 +10,7 @@ use Rattle.xanadu_parser.specs.Declarations.{declarations}
 use Rattle.xanadu_parser.specs.Faults.{IsAnswer}
 use Rattle.xanadu_parser.specs.Kinds.{kinds_of}
 use Rattle.xanadu_parser.specs.Parsing.{Answers, parsed, program, tree_or_fault}
-use Rattle.xanadu_parser.specs.Reader.{Read}
+use Rattle.expression_parser.specs.Reader.{Read}
 use Rattle.xanadu_parser.proofs.ParsedPrograms.{meaning}
 
 own : (answer : Result tree.Tree ParseError) → Answers (λ (t : tree.Tree). t) answer answer

@@ -10,7 +10,7 @@ ghost use Rattle.xanadu_driver.specs.Source.{IsRefused, source_most};
 
 use crate::translate::compile;
 use command_reports::{Answer, Refusal, SourceError};
-use expression_elaborator::most;
+use header_elaborator::most;
 use std::alloc::Global;
 use xan_io::{FileFault, FileRead, Files};
 use xan_lin::LimitKind;

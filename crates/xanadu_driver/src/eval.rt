@@ -10,7 +10,7 @@ ghost use Rattle.xanadu_tree.specs.PlainOf.{plain_core};
 
 use crate::translate::prove_source;
 use command_reports::{Answer, Refusal, SourceError, say};
-use expression_elaborator::most;
+use header_elaborator::most;
 use run_options::Limits;
 use source_runs::run_source;
 use std::alloc::Global;

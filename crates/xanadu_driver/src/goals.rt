@@ -9,7 +9,7 @@ ghost use Rattle.command_reports.specs.Outside.{held};
 
 use crate::translate::elaborate_source;
 use command_reports::{Answer, Listing, Refusal, SourceError, Workspace};
-use expression_elaborator::most;
+use header_elaborator::most;
 use std::alloc::Global;
 use xan_io::{FileFault, FileRead, Files};
 use xan_lin::LimitKind;

@@ -9,10 +9,10 @@ use Rattle.xanadu_tree.specs.Spelling as spelling
 use Rattle.xanadu_tree.specs.Spelling.{semicolon, quantifier_pieces, type_body_pieces, result_pieces, declaration_pieces, block_pieces}
 use Rattle.xanadu_tree.specs.Written.{IsTypeBody, PlacedTypeBody, IsResult, PlacedResult, IsDeclaration, PlacedDeclaration, type_at}
 use Rattle.xanadu_parser.specs.Declarations as read
-use Rattle.xanadu_parser.proofs.TokenTables.{mark-at, mark-any, word-at, a-lower, an-upper}
-use Rattle.xanadu_parser.proofs.ProductionLaws.{Law, law-give, law-take, law-made, law-choice, law-field, law-token, law-behind, law-before, reads}
-use Rattle.xanadu_parser.proofs.IndexLaws.{a-quantified, a-quantifier}
-use Rattle.xanadu_parser.proofs.TypeLaws.{type_heads, type_stops, a-type, types, parameters}
+use Rattle.expression_parser.proofs.TokenTables.{mark-at, mark-any, word-at, a-lower, an-upper}
+use Rattle.expression_parser.proofs.ProductionLaws.{Law, law-give, law-take, law-made, law-choice, law-field, law-token, law-behind, law-before, reads}
+use Rattle.expression_parser.proofs.IndexLaws.{a-quantified, a-quantifier}
+use Rattle.expression_parser.proofs.TypeLaws.{type_heads, type_stops, a-type, types, parameters}
 use Rattle.xanadu_parser.proofs.StatementLaws.{some-block}
 
 a-type-body : {most : ℕ} → Law most true (λ _. read.type_body) (λ b. b) (λ b. IsTypeBody b × PlacedTypeBody b) type_body_pieces (kind.Symbol symbol.LeftParen ∷ type_heads) false type_stops

@@ -1,17 +1,6 @@
-pub mod CommaLists
 pub mod DeclarationLaws
-pub mod Deeper
-pub mod ExpressionLaws
 pub mod Groups
-pub mod IndexLaws
-pub mod NextMarks
 pub mod ParsedPrograms
-pub mod Places
-pub mod ProductionLaws
 pub mod ProgramLaws
 pub mod Programs
 pub mod StatementLaws
-pub mod TokenLists
-pub mod TokenSets
-pub mod TokenTables
-pub mod TypeLaws

@@ -14,13 +14,13 @@ use Rattle.xanadu_parser.specs.declared.error.ParseError.{ParseError}
 use Rattle.xanadu_parser.specs.declared.error.ParseError.TheVariants as error
 use Rattle.xan_read.specs.Reader.{Alike}
 use Rattle.xan_read.proofs.AlikeLaws.{alike_self}
-use Rattle.xanadu_parser.specs.Reader.{Read}
+use Rattle.expression_parser.specs.Reader.{Read}
 use Rattle.xanadu_parser.specs.Kinds.{kinds_of}
 use Rattle.xanadu_parser.specs.Declarations.{declarations_from, declarations}
 use Rattle.xanadu_parser.specs.Parsing.{first_at, fault_at, tree_or_fault, program, parsed, Answers}
 use Rattle.xanadu_parser.specs.Faults.{Begins, IsFault, IsAnswer}
-use Rattle.xanadu_parser.proofs.ProductionLaws.{spelled-append, spelled-split, spelled-none}
-use Rattle.xanadu_parser.proofs.CommaLists.{all_parts}
+use Rattle.expression_parser.proofs.ProductionLaws.{spelled-append, spelled-split, spelled-none}
+use Rattle.expression_parser.proofs.CommaLists.{all_parts}
 use Rattle.xanadu_parser.proofs.ProgramLaws.{AreTexts, headed, found_all, FaultyAll, faulty_all, whole_all}
 
 -- ---- declarations one after the other, in the words of the grammar

@@ -9,10 +9,10 @@ use Rattle.xanadu_tree.specs.Written.{declaration_at}
 use Rattle.xan_read.specs.Reader.{◌>>=◌, Alike}
 use Rattle.xan_read.specs.Symbols.{OneThen}
 use Rattle.xan_read.proofs.AlikeLaws.{alike_through, done, failed, ok_parts, err_is}
-use Rattle.xanadu_parser.specs.Reader.{Read}
+use Rattle.expression_parser.specs.Reader.{Read}
 use Rattle.xanadu_parser.specs.Declarations.{declaration, declarations_from}
-use Rattle.xanadu_parser.proofs.TokenSets.{ends-nothing}
-use Rattle.xanadu_parser.proofs.ProductionLaws.{Said, said}
+use Rattle.expression_parser.proofs.TokenSets.{ends-nothing}
+use Rattle.expression_parser.proofs.ProductionLaws.{Said, said}
 use Rattle.xanadu_parser.proofs.DeclarationLaws.{FitsDeclaration, a-declaration}
 
 abbrev pub IsText : plain.Declaration → List Token → Type 0

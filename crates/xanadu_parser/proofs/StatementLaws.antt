@@ -18,18 +18,18 @@ use Rattle.xan_read.specs.Symbols.{take, Closed}
 use Rattle.xan_read.specs.Rooms.{Example}
 use Rattle.xan_read.proofs.RoomLaws.{within-as}
 use Rattle.xan_read.proofs.UntilLaws.{within-until}
-use Rattle.xanadu_parser.specs.Reader.{Family}
-use Rattle.xanadu_parser.specs.Tables.{mark}
-use Rattle.xanadu_parser.specs.Types as types
+use Rattle.expression_parser.specs.Reader.{Family}
+use Rattle.expression_parser.specs.Tables.{mark}
+use Rattle.expression_parser.specs.Types as types
 use Rattle.xanadu_parser.specs.Statements as read
-use Rattle.xanadu_parser.proofs.Deeper.{exact-none, exact-deeper}
-use Rattle.xanadu_parser.proofs.TokenSets.{Ends, Starts, ends-nothing, class, among, more}
-use Rattle.xanadu_parser.proofs.TokenTables.{at_0, mark-at, mark-any, word-at, word-any, a-lower}
-use Rattle.xanadu_parser.proofs.ProductionLaws.{Law, Formed, Said, said, law-give, law-take, law-made, law-choice, law-field, law-token, law-behind, law-before, law-sets, law-parts, reads, spelled-append, spelled-split, spelled-first, spelled-none, some-tokens, follows, eat-ends}
-use Rattle.xanadu_parser.proofs.CommaLists.{law-commas, law-through}
-use Rattle.xanadu_parser.proofs.IndexLaws.{names, comma, left_brace}
-use Rattle.xanadu_parser.proofs.TypeLaws.{a-clause, left_paren}
-use Rattle.xanadu_parser.proofs.ExpressionLaws.{FitsExpression, FitExpressions, FitIndices, closed_arguments, expression_heads, indices_of, expressions_of, left_bracket, some-or-no-arguments, some-indices, an-expression}
+use Rattle.expression_parser.proofs.Deeper.{exact-none, exact-deeper}
+use Rattle.expression_parser.proofs.TokenSets.{Ends, Starts, ends-nothing, class, among, more}
+use Rattle.expression_parser.proofs.TokenTables.{at_0, mark-at, mark-any, word-at, word-any, a-lower}
+use Rattle.expression_parser.proofs.ProductionLaws.{Law, Formed, Said, said, law-give, law-take, law-made, law-choice, law-field, law-token, law-behind, law-before, law-sets, law-parts, reads, spelled-append, spelled-split, spelled-first, spelled-none, some-tokens, follows, eat-ends}
+use Rattle.expression_parser.proofs.CommaLists.{law-commas, law-through}
+use Rattle.expression_parser.proofs.IndexLaws.{names, comma, left_brace}
+use Rattle.expression_parser.proofs.TypeLaws.{a-clause, left_paren}
+use Rattle.expression_parser.proofs.ExpressionLaws.{FitsExpression, FitExpressions, FitIndices, closed_arguments, expression_heads, indices_of, expressions_of, left_bracket, some-or-no-arguments, some-indices, an-expression}
 
 -- ---- parts
 

@@ -8,10 +8,10 @@ use Rattle.xanadu_tree.specs.Written.{type_at}
 use Rattle.xan_read.specs.Reader.{◌>>=◌}
 use Rattle.xan_read.specs.Combinators.{give, made, in_turn}
 use Rattle.xan_read.specs.Symbols.{take, where_comes, before, behind}
-use Rattle.xanadu_parser.specs.Reader.{Reader}
-use Rattle.xanadu_parser.specs.Tables.{keyword, mark, lower, upper}
-use Rattle.xanadu_parser.specs.Index.{quantifier, quantified}
-use Rattle.xanadu_parser.specs.Types.{written_type, types, parameters}
+use Rattle.expression_parser.specs.Reader.{Reader}
+use Rattle.expression_parser.specs.Tables.{keyword, mark, lower, upper}
+use Rattle.expression_parser.specs.Index.{quantifier, quantified}
+use Rattle.expression_parser.specs.Types.{written_type, types, parameters}
 use Rattle.xanadu_parser.specs.Statements.{block}
 
 unfoldable pub type_body : Reader plain.TypeBody

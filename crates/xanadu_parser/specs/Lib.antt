@@ -1,11 +1,3 @@
-pub mod Reader
-pub mod Code
-pub mod Tables
-pub mod Index
-pub mod Types
-pub mod Expressions
-pub mod Nests
-pub mod Views
 pub mod Statements
 pub mod Declarations
 pub mod Kinds

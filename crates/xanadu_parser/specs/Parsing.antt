@@ -5,7 +5,7 @@ use Rattle.xanadu_tree.specs.PlainTree as plain
 use Rattle.xanadu_tree.specs.Nesting.{nesting, nesting_most}
 use Rattle.xanadu_parser.specs.declared.error.ParseError.{ParseError}
 use Rattle.xanadu_parser.specs.declared.error.ParseError.TheVariants as error
-use Rattle.xanadu_parser.specs.Reader.{Read}
+use Rattle.expression_parser.specs.Reader.{Read}
 use Rattle.xanadu_parser.specs.Kinds.{kinds_of}
 use Rattle.xanadu_parser.specs.Declarations.{declarations}
 

@@ -7,10 +7,10 @@ use Rattle.xanadu_tree.specs.PlainTree as plain
 use Rattle.xanadu_tree.specs.PlainTreeOf.{to_indices, to_expressions, to_branch, to_statements}
 use Rattle.xan_read.specs.Combinators.{give, made, in_turn}
 use Rattle.xan_read.specs.Symbols.{take, where_comes, until, optional, separated, before, behind}
-use Rattle.xanadu_parser.specs.Reader.{Reader}
-use Rattle.xanadu_parser.specs.Tables.{keyword, mark, lower}
-use Rattle.xanadu_parser.specs.Types.{clause_behind}
-use Rattle.xanadu_parser.specs.Expressions.{expression, arguments, indices}
+use Rattle.expression_parser.specs.Reader.{Reader}
+use Rattle.expression_parser.specs.Tables.{keyword, mark, lower}
+use Rattle.expression_parser.specs.Types.{clause_behind}
+use Rattle.expression_parser.specs.Expressions.{expression, arguments, indices}
 
 -- ---- statements in which no block stands
 

@@ -2,15 +2,13 @@
 
 ghost use Rattle.std.specs.Prelude.{map};
 ghost use Rattle.xanadu_tree.specs.PlainTreeOf.{plain_type_body, plain_type_declaration, plain_result, plain_function, plain_declaration};
-ghost use Rattle.xanadu_parser.specs.Code.{Reads};
+ghost use Rattle.expression_parser.specs.Code.{Reads};
 ghost use Rattle.xanadu_parser.specs.Declarations as spec;
 
-use crate::index::{quantified, quantifier};
-use crate::room::push_closely;
 use crate::statements::block;
-use crate::stop::Stop;
-use crate::tokens::Tokens;
-use crate::types::{parameters, type_at, types, written_type};
+use expression_parser::{
+    Stop, Tokens, parameters, push_read, quantified, quantifier, type_at, types, written_type,
+};
 use std::alloc::Global;
 use xanadu_lexer::{Keyword, Symbol};
 use xanadu_tree::{Declaration, FunctionDeclaration, ResultType, TypeBody, TypeDeclaration};
@@ -165,7 +163,7 @@ pub fn declarations(
         if tokens.left() == 0 {
             return Ok(found);
         }
-        push_closely(&mut found, declaration(alloc, tokens, room)?)?;
+        push_read(&mut found, declaration(alloc, tokens, room))?;
     }
     Ok(found)
 }

@@ -3,15 +3,12 @@
 ghost use Rattle.std.specs.Prelude.{map};
 ghost use Rattle.std.specs.Option.{option_map};
 ghost use Rattle.xanadu_tree.specs.PlainTreeOf.{plain_expression, plain_statement, plain_block};
-ghost use Rattle.xanadu_parser.specs.Code.{Reads};
+ghost use Rattle.expression_parser.specs.Code.{Reads};
 ghost use Rattle.xanadu_parser.specs.Statements as spec;
 
-use crate::expressions::{arguments, expression, indices};
-use crate::lists::separated;
-use crate::room::push_closely;
-use crate::stop::Stop;
-use crate::tokens::Tokens;
-use crate::types::clause_behind;
+use expression_parser::{
+    Stop, Tokens, arguments, clause_behind, expression, indices, push_read, separated,
+};
 use std::alloc::Global;
 use xanadu_lexer::{Keyword, Symbol};
 use xanadu_tree::{Block, Expression, Identifier, Statement};
@@ -247,7 +244,7 @@ fn statements(alloc: Global, tokens: &mut Tokens<'_>, room: usize) -> Result<Vec
         if let Some(_) = tokens.eat_symbol(Symbol::RightBrace) {
             return Ok(found);
         }
-        push_closely(&mut found, statement(alloc, tokens, room)?)?;
+        push_read(&mut found, statement(alloc, tokens, room))?;
     }
     Err(tokens.fault())
 }

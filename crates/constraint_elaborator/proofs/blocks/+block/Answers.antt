@@ -3,7 +3,7 @@ use Rattle.typed_core.specs.Statements as spec
 use Rattle.xanadu_tree.specs.Plain as core
 use Rattle.xanadu_tree.specs.PlainOf.{plain_block, plain_stmt, plain_test}
 use Rattle.xanadu_tree.proofs.Equations.{plain_stmt-If}
-use Rattle.expression_elaborator.specs.Code.{Fails}
+use Rattle.header_elaborator.specs.Code.{Fails}
 use Rattle.expression_elaborator.specs.Views.{site_of, state_of}
 use Rattle.constraint_elaborator.specs.BlockViews.{first_branch, second_branch, turns_of}
 use Rattle.constraint_elaborator.proofs.BlockParts.{if_fails, if_goes, while_fails, while_goes}

@@ -1,6 +1,6 @@
 use Rattle.std.proofs.Common.{sym, subst, arith}
 use Rattle.state_types.specs.PlaceTypes.{PlacesRise}
-use Rattle.constraint_elaborator.proofs.PlaceLists.{enumerate-rises}
+use Rattle.constraint_elaborator.proofs.KeptPlaces.{enumerate-rises}
 use Rattle.constraint_elaborator.proofs.bodies.body_start.Goals as goal
 
 pub from_vec-requires : goal.from_vec-requires

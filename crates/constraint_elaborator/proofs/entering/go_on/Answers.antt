@@ -1,7 +1,7 @@
 use Rattle.std.proofs.Common.{◌≡◌, sym, subst, rules}
 use Rattle.state_types.specs.PlaceTypes.{PlacesRise}
 use Rattle.typed_core.specs.Joins.{still_visible}
-use Rattle.constraint_elaborator.proofs.PlaceLists.{still-rises}
+use Rattle.constraint_elaborator.proofs.KeptPlaces.{still-rises}
 use Rattle.constraint_elaborator.proofs.entering.go_on.Goals as goal
 
 pub from_vec-places-requires : goal.from_vec-places-requires

@@ -1,7 +1,7 @@
 use Rattle.std.proofs.Common.{rules}
 use Rattle.std.proofs.lemmas.Result.{err_from_is_err_and}
-use Rattle.constraint_elaborator.specs.JoinViews.{joint_of}
-use Rattle.constraint_elaborator.proofs.JoinFailures.{met_fails}
+use Rattle.join_elaborator.specs.JoinViews.{joint_of}
+use Rattle.constraint_elaborator.proofs.WaysIn.{met_fails}
 use Rattle.constraint_elaborator.proofs.entering.match_joint.Goals as goal
 
 pub returns-in_err-found : goal.returns-in_err-found

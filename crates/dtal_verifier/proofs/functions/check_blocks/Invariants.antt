@@ -1,8 +1,8 @@
 use Rattle.std.proofs.Common.{◌≡◌, ◌+◌, ◌≤◌, length, All}
 use Rattle.dtal_code.specs.Grammar.{IsCode, size_of}
 use Rattle.operation_rules.specs.Settings.{setting_of}
-use Rattle.dtal_verifier.specs.Proving.{IsReady}
-use Rattle.dtal_verifier.specs.Views.{IsStanding}
+use Rattle.instruction_checks.specs.Proving.{IsReady}
+use Rattle.instruction_checks.specs.Views.{IsStanding}
 use Rattle.dtal_verifier.specs.Walks.{blocks_passed}
 use Rattle.dtal_verifier.proofs.functions.check_blocks.Given as goal
 

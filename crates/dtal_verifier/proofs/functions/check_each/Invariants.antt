@@ -1,6 +1,6 @@
 use Rattle.std.proofs.Common.{◌≡◌, ◌+◌, ◌≤◌, length, All}
 use Rattle.dtal_code.specs.Grammar.{IsFunction}
-use Rattle.dtal_verifier.specs.Proving.{IsReady}
+use Rattle.instruction_checks.specs.Proving.{IsReady}
 use Rattle.dtal_verifier.specs.Views.{IsDeclared}
 use Rattle.dtal_verifier.specs.Walks.{functions_passed}
 use Rattle.dtal_verifier.proofs.functions.check_each.Given as goal

@@ -1,6 +1,7 @@
 use Rattle.std.proofs.Common.{◌≡◌, ◌+◌, ◌≤◌, length, All}
 use Rattle.dtal_code.specs.Refusing.{labels_walked}
-use Rattle.dtal_verifier.specs.Views.{IsStanding, table_with}
+use Rattle.dtal_verifier.specs.Views.{table_with}
+use Rattle.instruction_checks.specs.Views.{IsStanding}
 use Rattle.dtal_verifier.specs.Walks.{states_behind}
 use Rattle.dtal_verifier.proofs.functions.label_states.Given as goal
 

@@ -1,5 +1,5 @@
 use Rattle.dtal_verifier.proofs.DeclaredNames.{declared_by}
-use Rattle.dtal_verifier.proofs.VerdictParts.{always}
+use Rattle.dtal_verifier.proofs.RefusedPlaces.{always}
 use Rattle.dtal_verifier.proofs.whole.check_declarations.Goals as goal
 
 pub returns-clause-declared : goal.returns-clause-declared

@@ -1,5 +1,6 @@
 use Rattle.std.proofs.Common.{◌≡◌, ◌≤◌, [], map, drop}
-use Rattle.expression_elaborator.specs.Views.{site_of, state_of, link_of}
+use Rattle.header_elaborator.specs.Links.{link_of}
+use Rattle.expression_elaborator.specs.Views.{site_of, state_of}
 use Rattle.typed_core.specs.Operands.{operands, chained}
 use Rattle.xanadu_tree.specs.PlainOf.{plain_expr, to_exprs, to_links}
 use Rattle.expression_elaborator.proofs.operands.+expression.Given as goal

@@ -1,6 +1,6 @@
 use Rattle.std.proofs.Common.{◌∙◌, sym, subst, All}
 use Rattle.operation_rules.specs.Named.{IsNamed}
-use Rattle.expression_elaborator.proofs.WalkParts.{sides_below}
+use Rattle.expression_elaborator.proofs.BranchSides.{sides_below}
 use Rattle.expression_elaborator.proofs.tests.on_side.Goals as goal
 
 pub assume_all-requires : goal.assume_all-requires

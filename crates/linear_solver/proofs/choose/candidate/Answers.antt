@@ -1,5 +1,5 @@
 use Rattle.std.proofs.Common.{get_or, arith}
-use Rattle.linear_solver.specs.declared.source.Sign.TheVariants.{Positive, Negative}
+use Rattle.solver_rows.specs.declared.source.Sign.TheVariants.{Positive, Negative}
 use Rattle.linear_solver.proofs.RowCounts.{with_sign-few}
 use Rattle.linear_solver.proofs.choose.candidate.Goals as goal
 

@@ -1,5 +1,5 @@
 use Rattle.std.proofs.Common.{◌<◌, length, arith}
-use Rattle.linear_solver.specs.declared.source.Sign.TheVariants.{Positive, Negative}
+use Rattle.solver_rows.specs.declared.source.Sign.TheVariants.{Positive, Negative}
 use Rattle.linear_solver.proofs.Tallies.{tallied_more, tallied_all, few_more}
 use Rattle.linear_solver.proofs.counts.count_all.Goals as goal
 

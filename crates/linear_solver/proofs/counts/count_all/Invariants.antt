@@ -1,4 +1,4 @@
-use Rattle.linear_solver.specs.declared.source.Sign.TheVariants.{Positive, Negative}
+use Rattle.solver_rows.specs.declared.source.Sign.TheVariants.{Positive, Negative}
 use Rattle.linear_solver.proofs.Tallies.{Tallied, AreFew}
 use Rattle.linear_solver.proofs.counts.count_all.Given as goal
 

@@ -1,5 +1,5 @@
 use Rattle.std.proofs.Common.{ap, [], length, get_or, arith}
-use Rattle.linear_solver.specs.declared.source.Sign.TheVariants.{Zero}
+use Rattle.solver_rows.specs.declared.source.Sign.TheVariants.{Zero}
 use Rattle.linear_solver.specs.Systems.{with_sign}
 use Rattle.linear_solver.proofs.RowCounts.{with_sign-few}
 use Rattle.linear_solver.proofs.Room.{reduced-more}

@@ -1,6 +1,6 @@
 use Rattle.std.proofs.Common.{rules, w64, FitsSigned, ◌≡◌, ◌∙◌, ap, get_or, unsigned_abs, arith}
 use Rattle.std.proofs.lemmas.Int.{to_z-of_z}
-use Rattle.linear_solver.specs.Systems.{coefficient}
+use Rattle.solver_rows.specs.SystemRows.{coefficient}
 use Rattle.linear_solver.specs.Region.{no_row}
 use Rattle.linear_solver.proofs.SummedCells.{size_small}
 use Rattle.linear_solver.proofs.next.size.Goals as goal

@@ -1,8 +1,9 @@
 use Rattle.std.proofs.Common.{rules, w64, FitsSigned, ◌≡◌, ◌∙◌, ◌∷◌, sym, ap, subst, get_or, true, List, ℕ, length, arith}
 use Rattle.std.proofs.lemmas.Int.{to_z-of_z}
 use Rattle.xan_lin.specs.Linear.{all_within}
-use Rattle.linear_solver.specs.Systems.{size}
-use Rattle.linear_solver.specs.Region.{no_row, linear_in}
+use Rattle.solver_rows.specs.SystemRows.{size}
+use Rattle.solver_rows.specs.RowsInCells.{linear_in}
+use Rattle.linear_solver.specs.Region.{no_row}
 use Rattle.linear_solver.proofs.SummedCells.{pair_of, past, small, sums_as, sum-wide}
 use Rattle.linear_solver.proofs.next.sum_up.Goals as goal
 

@@ -1,5 +1,5 @@
 use Rattle.std.proofs.Common.{get_or}
-use Rattle.linear_solver.specs.declared.source.Sign.TheVariants.{Positive, Negative}
+use Rattle.solver_rows.specs.declared.source.Sign.TheVariants.{Positive, Negative}
 use Rattle.linear_solver.specs.Systems.{with_all_sums, with_sign}
 use Rattle.linear_solver.proofs.Makings.{AllSums}
 use Rattle.linear_solver.proofs.next.with_all_sums.Given as goal

@@ -1,5 +1,5 @@
 use Rattle.std.proofs.Common.{get_or}
-use Rattle.linear_solver.specs.declared.source.Sign.TheVariants.{Negative}
+use Rattle.solver_rows.specs.declared.source.Sign.TheVariants.{Negative}
 use Rattle.linear_solver.specs.Systems.{with_sums, with_sign}
 use Rattle.linear_solver.specs.Region.{no_row}
 use Rattle.linear_solver.proofs.Makings.{Sums}

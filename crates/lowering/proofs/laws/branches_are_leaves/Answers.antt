@@ -1,5 +1,5 @@
 use Rattle.std.proofs.Common.{◌∙◌}
-use Rattle.lowering.specs.Frames.{frame_of}
+use Rattle.value_lowering.specs.Frames.{frame_of}
 use Rattle.lowering.specs.Lowered.{code_of, labels_of}
 use Rattle.lowering.proofs.BranchesCounted.{block_branches, numbered_branches}
 use Rattle.lowering.proofs.laws.branches_are_leaves.Goals as goal

@@ -1,6 +1,6 @@
 use Rattle.std.proofs.Common.{◌≡◌, ◌+◌, map, drop}
-use Rattle.lowering.specs.Emitted.{link_of}
-use Rattle.lowering.specs.ValueCode.{operands_size, links_size}
+use Rattle.value_lowering.specs.ChainParts.{link_of}
+use Rattle.value_lowering.specs.ValueCode.{operands_size, links_size}
 use Rattle.xanadu_tree.specs.PlainOf.{plain_expr, to_exprs, to_links}
 use Rattle.lowering.proofs.sizes.+sizes.Given as goal
 

@@ -1,5 +1,5 @@
 use Rattle.std.proofs.Common.{◌≡◌, map, drop}
-use Rattle.lowering.specs.Emitted.{link_of}
+use Rattle.value_lowering.specs.ChainParts.{link_of}
 use Rattle.type_carrier.specs.CarriedValues.{carried, operands, links}
 use Rattle.type_carrier.specs.Views.{proofs_of}
 use Rattle.xanadu_tree.specs.PlainOf.{plain_expr, to_exprs, to_links}

@@ -2,7 +2,7 @@ use Rattle.std.proofs.Common.{◌≡◌, ◌-◌, ◌+◌, ◌*◌, map}
 use Rattle.xanadu_lexer.specs.declared.symbol.Symbol.TheVariants as symbol
 use Rattle.xanadu_tree.specs.PlainTreeOf.{plain_statement}
 use Rattle.xan_read.specs.Symbols.{until_from}
-use Rattle.xanadu_parser.specs.Tables.{mark}
+use Rattle.expression_parser.specs.Tables.{mark}
 use Rattle.xanadu_parser.specs.Statements as spec
 use Rattle.xanadu_parser.proofs.statements.+block.Given as goal
 

@@ -1,7 +1,7 @@
 use Rattle.std.proofs.Common.{◌<◌, length, arith}
 use Rattle.linear_solver.proofs.Stores.{there}
 use Rattle.linear_solver.proofs.Regions.{count_made, made_signs}
-use Rattle.linear_solver.proofs.SignLemmas.{signs_differ}
+use Rattle.solver_rows.proofs.SignLemmas.{signs_differ}
 use Rattle.linear_solver.proofs.workspace.Workspace.has_signs.Goals as goal
 
 pub index-requires : goal.index-requires

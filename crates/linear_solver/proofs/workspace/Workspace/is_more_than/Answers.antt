@@ -1,6 +1,6 @@
 use Rattle.std.proofs.Common.{rules, w64, FitsSigned, ◌≡◌, ◌∙◌, ◌∷◌, ◌<◌, ap, sym, subst, int_lt, drop, length, List, ℤ, to_z, of_z, arith}
 use Rattle.std.proofs.lemmas.Int.{to_z-of_z}
-use Rattle.linear_solver.proofs.WorkspaceReads.{constant_in}
+use Rattle.solver_rows.proofs.HoldingRows.{constant_in}
 use Rattle.linear_solver.proofs.Stores.{there}
 use Rattle.linear_solver.proofs.Regions.{count_made, made_beside}
 use Rattle.linear_solver.proofs.workspace.Workspace.is_more_than.Goals as goal

@@ -1,7 +1,7 @@
 use Rattle.std.proofs.Common.{◌≡◌, drop}
 use Rattle.std.specs.List.{list_any}
-use Rattle.linear_solver.specs.Systems.{same_terms}
-use Rattle.linear_solver.specs.Region.{linear_in}
+use Rattle.solver_rows.specs.SystemRows.{same_terms}
+use Rattle.solver_rows.specs.RowsInCells.{linear_in}
 use Rattle.linear_solver.proofs.workspace.Workspace.place_of.Given as goal
 
 abbrev pub invariant-rows : goal.invariant-rows

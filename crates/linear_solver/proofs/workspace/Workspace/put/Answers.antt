@@ -1,6 +1,7 @@
 use Rattle.std.proofs.Common.{refl, sym, subst, ◌∙◌, ◌++◌, [], ◌∷◌, ap, arith}
-use Rattle.linear_solver.specs.declared.side.Side.{Side}
-use Rattle.linear_solver.specs.Region.{Work, row_in, IsSigned}
+use Rattle.solver_rows.specs.declared.side.Side.{Side}
+use Rattle.solver_rows.specs.RowsInCells.{row_in, IsSigned}
+use Rattle.linear_solver.specs.Region.{Work}
 use Rattle.linear_solver.proofs.PlacedRows.{room_left, put_as, put_work}
 use Rattle.linear_solver.proofs.workspace.Workspace.put.Goals as goal
 

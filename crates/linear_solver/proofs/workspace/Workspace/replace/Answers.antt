@@ -1,6 +1,7 @@
 use Rattle.std.proofs.Common.{refl, sym, subst, ◌∙◌, ◌<◌, ap, set, length, arith}
-use Rattle.linear_solver.specs.declared.side.Side.{Side}
-use Rattle.linear_solver.specs.Region.{Work, row_in, IsSigned}
+use Rattle.solver_rows.specs.declared.side.Side.{Side}
+use Rattle.solver_rows.specs.RowsInCells.{row_in, IsSigned}
+use Rattle.linear_solver.specs.Region.{Work}
 use Rattle.linear_solver.proofs.Stores.{there_too}
 use Rattle.linear_solver.proofs.Regions.{count_made, Replaced}
 use Rattle.linear_solver.proofs.PlacedRows.{set_work}

@@ -1,5 +1,5 @@
 use Rattle.std.proofs.Common.{subst, List, ℕ}
-use Rattle.linear_solver.specs.Region.{AreRising}
+use Rattle.solver_rows.specs.RowsInCells.{AreRising}
 use Rattle.linear_solver.proofs.WorkspaceReads.{holds_settled, set_settled}
 use Rattle.linear_solver.proofs.PlacedRows.{settled_as}
 use Rattle.linear_solver.proofs.workspace.Workspace.settle.Goals as goal

@@ -1,9 +1,0 @@
-use Rattle.operation_rules.specs.Settings.{setting_of}
-use Rattle.dtal_verifier.specs.Views.{action_of}
-use Rattle.dtal_verifier.proofs.StepsSame.{gives_back_same}
-use Rattle.dtal_verifier.proofs.VerdictParts.{gives_same}
-use Rattle.dtal_verifier.proofs.going.go_back.Goals as goal
-
-pub returns-clause-gone : goal.returns-clause-gone
-returns-clause-gone c =
-    gives_same _ c.go_back_by.result _ _ (gives_back_same (setting_of c.args.site.now.setting) c.args.state.now (action_of c.args.action.now) c.args.by.now) c.go_back_by.ensures.gone

@@ -1,5 +1,0 @@
-use Rattle.dtal_verifier.proofs.StandingStates.{there_below}
-use Rattle.dtal_verifier.proofs.reading.present_types.Goals as goal
-
-pub returns-clause-below : goal.returns-clause-below
-returns-clause-below c = there_below _ _ _ _ c.in_ok-types_there.ensures c.requires.below

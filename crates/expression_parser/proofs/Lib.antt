@@ -1,0 +1,11 @@
+pub mod CommaLists
+pub mod Deeper
+pub mod ExpressionLaws
+pub mod IndexLaws
+pub mod NextMarks
+pub mod Places
+pub mod ProductionLaws
+pub mod TokenLists
+pub mod TokenSets
+pub mod TokenTables
+pub mod TypeLaws

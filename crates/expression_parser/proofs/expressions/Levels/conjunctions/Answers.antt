@@ -1,0 +1,24 @@
+use Rattle.std.proofs.Common.{◌-◌, ◌+◌, refl, arith}
+use Rattle.std.proofs.lemmas.Result.{err_from_is_err_and}
+use Rattle.xanadu_lexer.specs.declared.symbol.Symbol.TheVariants as symbol
+use Rattle.expression_parser.specs.Tables.{mark}
+use Rattle.expression_parser.specs.Views.{behind_or}
+use Rattle.expression_parser.specs.Expressions as spec
+use Rattle.xanadu_tree.specs.PlainTreeOf.{plain_conjunction}
+use Rattle.expression_parser.proofs.TokenLists.{more_put, fails_put, ends, full}
+use Rattle.expression_parser.proofs.expressions.Levels.conjunctions.Goals as goal
+
+pub returns-in_default : goal.returns-in_default
+returns-in_default g c = ends (mark symbol.Or) (spec.one_conjunction (spec.expression c.args.self.now.room)) _ _ _ _ _ c.in_default.ensures c.loop-turn.invariant
+
+pub returns-in_err-push_placed : goal.returns-in_err-push_placed
+returns-in_err-push_placed g c =
+    let p = err_from_is_err_and c.from_residual.result c.from_residual.ensures.1 in
+    rw (p.1, p.2) (fails_put (mark symbol.Or) (spec.one_conjunction (spec.expression c.args.self.now.room)) (spec.conjunction (spec.expression c.args.self.now.room)) plain_conjunction behind_or _ c.conjunction.result _ _ (c.left-turn-end.result - (c.loop-turn._turn + 1)) _ _ _ _ _ _ _ (omega arith) c.in-Some.ensures c.conjunction.ensures c.in_err-push_placed.ensures (λ n e. rw e refl) c.loop-turn.invariant)
+
+pub loop-turn-preserved : goal.loop-turn-preserved
+loop-turn-preserved g c =
+    more_put (mark symbol.Or) (spec.one_conjunction (spec.expression c.args.self.now.room)) (spec.conjunction (spec.expression c.args.self.now.room)) plain_conjunction behind_or _ c.conjunction.result _ (c.left-turn-end.result - c.loop-turn._turn) _ _ _ _ _ _ _ _ (omega arith) c.in-Some.ensures c.conjunction.ensures c.in_ok-push_placed.ensures (λ x e. rw e refl) c.loop-turn.invariant
+
+pub returns : goal.returns
+returns g c = full (mark symbol.Or) (spec.one_conjunction (spec.expression c.args.self.now.room)) _ _ _ _ (omega arith) c.loop-turn.invariant

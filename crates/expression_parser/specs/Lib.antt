@@ -1,0 +1,9 @@
+pub mod Reader
+pub mod Code
+pub mod Adds
+pub mod Tables
+pub mod Index
+pub mod Types
+pub mod Expressions
+pub mod Nests
+pub mod Views

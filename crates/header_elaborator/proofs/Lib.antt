@@ -1,0 +1,4 @@
+pub mod WalkParts
+pub mod StrayTests
+pub mod Lists
+pub mod FormFacts

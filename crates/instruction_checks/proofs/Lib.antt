@@ -1,0 +1,4 @@
+pub mod VerdictParts
+pub mod StepsSame
+pub mod StandingStates
+pub mod PlacesTurns

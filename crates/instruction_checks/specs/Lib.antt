@@ -1,0 +1,4 @@
+pub mod Code
+pub mod Views
+pub mod Proving
+pub mod Steps

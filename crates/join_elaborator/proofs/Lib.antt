@@ -1,0 +1,4 @@
+pub mod PlaceLists
+pub mod JoinFailures
+pub mod Marks
+pub mod RenewedMarks

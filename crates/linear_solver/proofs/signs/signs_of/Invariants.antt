@@ -1,6 +1,0 @@
-use Rattle.std.proofs.Common.{take}
-use Rattle.linear_solver.specs.Signing.{AreSigns}
-use Rattle.linear_solver.proofs.signs.signs_of.Given as goal
-
-abbrev pub invariant-numbers : goal.invariant-numbers
-invariant-numbers l = AreSigns l.signs (take l.column l.numbers)

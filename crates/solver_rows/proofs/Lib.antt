@@ -1,0 +1,12 @@
+pub mod Euclid
+pub mod SmallCoefficients
+pub mod RowSums
+pub mod Sparse
+pub mod SameTerms
+pub mod SignLemmas
+pub mod CellSums
+pub mod SpreadRows
+pub mod HoldingRows
+pub mod CommonDivisors
+pub mod Lowest
+pub mod TightenedRows

@@ -1,0 +1,5 @@
+pub mod Divisors
+pub mod SystemRows
+pub mod Signing
+pub mod Merging
+pub mod RowsInCells

@@ -1,0 +1,4 @@
+pub mod Frames
+pub mod OneInstruction
+pub mod ValueCode
+pub mod ChainParts
